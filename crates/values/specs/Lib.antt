@@ -1,0 +1,2 @@
+pub mod HintSets
+pub mod Sizes
