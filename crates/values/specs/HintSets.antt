@@ -62,13 +62,13 @@ hints-from client values =
     cond (leb client 15 && leb (length values) 5) (Ok (record { client = client; values = values })) (Err 8)
 
 -- a value past the count is 0
-abbrev pub blank : ℕ → ℕ → ℕ → Bool
-blank count place value = ltb place count || eqb value 0
+abbrev pub may-stand : ℕ → ℕ → ℕ → Bool
+may-stand count place value = ltb place count || eqb value 0
 
 abbrev pub lawful : HintNumbers → Bool
 lawful n =
-    leb (n .client) 15 && leb (n .count) 5 && blank (n .count) 0 (n .first) && blank (n .count) 1 (n .second)
-    && blank (n .count) 2 (n .third) && blank (n .count) 3 (n .fourth) && blank (n .count) 4 (n .fifth)
+    leb (n .client) 15 && leb (n .count) 5 && may-stand (n .count) 0 (n .first) && may-stand (n .count) 1 (n .second)
+    && may-stand (n .count) 2 (n .third) && may-stand (n .count) 3 (n .fourth) && may-stand (n .count) 4 (n .fifth)
 
 abbrev pub numbers-from : HintNumbers → Result HintNumbers ℕ
 numbers-from n = cond (lawful n) (Ok n) (Err 8)

@@ -1,9 +1,8 @@
-ghost use mathlib.Core.Bool.{Bool};
 ghost use mathlib.Core.Path.{_≡_};
 ghost use lib.ListN.{length, getD};
 ghost use Prim.Native.Nat.{_≤_};
 ghost use Rattle.std.specs.Vec.{made};
-ghost use Rattle.values.specs.HintSets.{Hints, blank, hints-from, lawful, meaning, numbers-from, numbersOf, numbered, padded, said, says};
+ghost use Rattle.values.specs.HintSets.{hints-from, lawful, may-stand, meaning, numbers-from, numbersOf, numbered, padded, said, says};
 use crate::hint_numbers::HintNumbers;
 use crate::hint_set::BadHintSet;
 use crate::hint_set::HintSet;
@@ -40,8 +39,8 @@ fn padded(client: u8, values: &[u16]) -> HintNumbers
 }
 
 /// Whether a value may stand at a place, from 0: one past the count has to be 0.
-fn is_blank(count: u8, place: u8, value: u16) -> bool
-    ensures { λ r. ⌜ r ≡ blank count place value ⌝ }
+fn may_stand(count: u8, place: u8, value: u16) -> bool
+    ensures { λ r. ⌜ r ≡ may-stand count place value ⌝ }
 {
     place < count || value == 0
 }
@@ -51,11 +50,11 @@ fn is_lawful(n: HintNumbers) -> bool
 {
     n.client <= MOST_CLIENT
         && n.count <= MOST_COUNT
-        && is_blank(n.count, 0, n.first)
-        && is_blank(n.count, 1, n.second)
-        && is_blank(n.count, 2, n.third)
-        && is_blank(n.count, 3, n.fourth)
-        && is_blank(n.count, 4, n.fifth)
+        && may_stand(n.count, 0, n.first)
+        && may_stand(n.count, 1, n.second)
+        && may_stand(n.count, 2, n.third)
+        && may_stand(n.count, 3, n.fourth)
+        && may_stand(n.count, 4, n.fifth)
 }
 
 impl HintSet {
