@@ -8,11 +8,12 @@ use lib.Dec.{leb}
 use lib.ListN.{length}
 use Rattle.std.specs.declared.result.Result.{Result}
 use Rattle.std.specs.declared.result.Result.the-variants.{Ok, Err}
+use Rattle.std.specs.Results.{mapped}
 use Rattle.std.proofs.shelf.Tests.{le-leb}
 use Rattle.values.specs.declared.hint_numbers.HintNumbers.{HintNumbers}
 use Rattle.values.specs.declared.hint_set.BadHintSet.{BadHintSet}
 use Rattle.values.specs.declared.hint_set.HintSet.{HintSet}
-use Rattle.values.specs.HintSets.{Hints, hints-from, lawful, numbered, numbers-from, padded, said, says}
+use Rattle.values.specs.HintSets.{hints-from, lawful, meaning, numbers-from, numbersOf, padded, refused, says}
 
 and-true : (x : Bool) → (x && true) ≡ x
 and-true true = refl
@@ -38,24 +39,18 @@ says-padded client (a ∷ b ∷ c ∷ d ∷ []) h = refl
 says-padded client (a ∷ b ∷ c ∷ d ∷ e ∷ []) h = refl
 says-padded client (a ∷ b ∷ c ∷ d ∷ e ∷ f ∷ vs) h = absurd (omega arith)
 
--- what is made from the numbers says what they say
-told : Result HintNumbers ℕ → Result Hints ℕ
-told (Ok n) = Ok (says n)
-told (Err f) = Err f
+-- what a hint set says, its numbers say
+told : (r : Result HintSet BadHintSet) → mapped meaning refused r ≡ mapped says (λ f. f) (mapped numbersOf refused r)
+told (Ok h) = refl
+told (Err b) = refl
 
-said-told : (r : Result HintSet BadHintSet) → said r ≡ told (numbered r)
-unfolding told
-said-told (Ok h) = refl
-said-told (Err b) = refl
-
-told-cond : (b : Bool) (n : HintNumbers) (f : ℕ) → told (cond b (Ok n) (Err f)) ≡ cond b (Ok (says n)) (Err f)
-unfolding told
-told-cond true n f = refl
-told-cond false n f = refl
+mapped-cond : (b : Bool) (n : HintNumbers) → mapped says (λ (f : ℕ). f) (cond b (Ok n) (Err 8)) ≡ cond b (Ok (says n)) (Err 8)
+mapped-cond true n = refl
+mapped-cond false n = refl
 
 -- a hint set made from the padded numbers is that of the client and the values
 pub made-from-padded : (client : ℕ) (vs : List ℕ) → length vs ≤ 5 → (r : Result HintSet BadHintSet) →
-    numbered r ≡ numbers-from (padded client vs) → said r ≡ hints-from client vs
+    mapped numbersOf refused r ≡ numbers-from (padded client vs) → mapped meaning refused r ≡ hints-from client vs
 made-from-padded client vs h r e =
-    said-told r ∙ ap told e ∙ told-cond (lawful (padded client vs)) (padded client vs) 8
+    told r ∙ ap (mapped says (λ f. f)) e ∙ mapped-cond (lawful (padded client vs)) (padded client vs)
     ∙ cc (lawful-padded client vs h, says-padded client vs h, le-leb (length vs) 5 h, and-true (leb client 15))

@@ -8,7 +8,7 @@
 --   hints-from     what making a hint set from a client and values answers
 --   lawful         whether plain numbers are those of a hint set
 --   numbers-from   what making a hint set from plain numbers answers
---   said, numbered   the code's answers in these words: a refusal is its number
+--   refused        the refusal: its number
 use mathlib.Core.Bool.{Bool, cond, _&&_, _||_}
 use mathlib.Core.List.{List, [], _∷_}
 use Prim.Native.Nat.{ℕ}
@@ -73,10 +73,5 @@ lawful n =
 abbrev pub numbers-from : HintNumbers → Result HintNumbers ℕ
 numbers-from n = cond (lawful n) (Ok n) (Err 8)
 
-abbrev pub said : Result HintSet BadHintSet → Result Hints ℕ
-said (Ok h) = Ok (meaning h)
-said (Err b) = Err 8
-
-abbrev pub numbered : Result HintSet BadHintSet → Result HintNumbers ℕ
-numbered (Ok h) = Ok (numbersOf h)
-numbered (Err b) = Err 8
+abbrev pub refused : BadHintSet → ℕ
+refused b = 8

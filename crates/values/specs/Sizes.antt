@@ -4,12 +4,13 @@
 --   limited      what the test of one size answers
 --   sizes-from   what making sizes from plain numbers answers
 --   numbersOf    the plain numbers of sizes
---   tested, numbered   the code's answers in these words: a refusal is its number with the place of the size
+--   refused      the refusal: its number, and the place of the size that it names
 use mathlib.Core.Bool.{cond, _&&_}
 use Prim.Native.Nat.{ℕ}
 use lib.Dec.{leb}
 use Rattle.std.specs.declared.result.Result.{Result}
 use Rattle.std.specs.declared.result.Result.the-variants.{Ok, Err}
+use Rattle.std.specs.Results.{andOther}
 use Rattle.values.specs.declared.size_numbers.SizeNumbers.{SizeNumbers}
 use Rattle.values.specs.declared.sizes.BadSize.{BadSize}
 use Rattle.values.specs.declared.sizes.SizeName.{SizeName}
@@ -28,19 +29,14 @@ place Window = 4
 abbrev pub limited : ℕ → ℕ → ℕ → Result Unit (ℕ × ℕ)
 limited at size most = cond (leb 1 size && leb size most) (Ok tt) (Err (1, at))
 
--- the second answer, unless the first refuses
-abbrev pub then : {X : Type 0} → Result Unit (ℕ × ℕ) → Result X (ℕ × ℕ) → Result X (ℕ × ℕ)
-then (Ok x) next = next
-then (Err f) next = Err f
-
 -- each size in order, and then the numbers as they are
 abbrev pub sizes-from : SizeNumbers → Result SizeNumbers (ℕ × ℕ)
 sizes-from n =
-    then (limited 0 (n .«cache_places») 1024)
-    (then (limited 1 (n .«queue_places») 8192)
-    (then (limited 2 (n .«hint_rows») 256)
-    (then (limited 3 (n .«page_rows») 256)
-    (then (limited 4 (n .window) 2048)
+    andOther (limited 0 (n .«cache_places») 1024)
+    (andOther (limited 1 (n .«queue_places») 8192)
+    (andOther (limited 2 (n .«hint_rows») 256)
+    (andOther (limited 3 (n .«page_rows») 256)
+    (andOther (limited 4 (n .window) 2048)
     (Ok n)))))
 
 abbrev pub numbersOf : Sizes → SizeNumbers
@@ -52,10 +48,5 @@ numbersOf s = record {
   window = s .window;
 }
 
-abbrev pub tested : Result Unit BadSize → Result Unit (ℕ × ℕ)
-tested (Ok x) = Ok x
-tested (Err b) = Err (1, place (b .0))
-
-abbrev pub numbered : Result Sizes BadSize → Result SizeNumbers (ℕ × ℕ)
-numbered (Ok s) = Ok (numbersOf s)
-numbered (Err b) = Err (1, place (b .0))
+abbrev pub refused : BadSize → ℕ × ℕ
+refused b = (1, place (b .0))

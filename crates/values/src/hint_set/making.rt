@@ -1,8 +1,9 @@
 ghost use mathlib.Core.Path.{_≡_};
 ghost use lib.ListN.{length, getD};
 ghost use Prim.Native.Nat.{_≤_};
+ghost use Rattle.std.specs.Results.{mapped};
 ghost use Rattle.std.specs.Vec.{made};
-ghost use Rattle.values.specs.HintSets.{hints-from, lawful, may-stand, meaning, numbers-from, numbersOf, numbered, padded, said, says};
+ghost use Rattle.values.specs.HintSets.{hints-from, lawful, may-stand, meaning, numbers-from, numbersOf, padded, refused, says};
 use crate::hint_numbers::HintNumbers;
 use crate::hint_set::BadHintSet;
 use crate::hint_set::HintSet;
@@ -60,7 +61,7 @@ fn is_lawful(n: HintNumbers) -> bool
 impl HintSet {
     /// The hint set of a client with a list of values.
     pub fn new(client: u8, values: &[u16]) -> Result<HintSet, BadHintSet>
-        ensures { λ r. ⌜ said r ≡ hints-from client (now (values .entry)) ⌝ }
+        ensures { λ r. ⌜ mapped meaning refused r ≡ hints-from client (now (values .entry)) ⌝ }
     {
         if values.len() > MOST_COUNT as usize {
             return Err(BadHintSet);
@@ -70,7 +71,7 @@ impl HintSet {
 
     /// The hint set that plain numbers stand for, if they are those of one.
     pub fn from_numbers(n: HintNumbers) -> Result<HintSet, BadHintSet>
-        ensures value { λ r. ⌜ numbered r ≡ numbers-from n ⌝ }
+        ensures value { λ r. ⌜ mapped numbersOf refused r ≡ numbers-from n ⌝ }
         ensures meaning { λ r. ⌜ made r (λ h. meaning h ≡ says n) ⌝ }
     {
         if !is_lawful(n) {

@@ -1,5 +1,6 @@
 ghost use mathlib.Core.Path.{_≡_};
-ghost use Rattle.values.specs.Sizes.{limited, numbersOf, numbered, place, sizes-from, tested};
+ghost use Rattle.std.specs.Results.{mapped};
+ghost use Rattle.values.specs.Sizes.{limited, numbersOf, place, refused, sizes-from};
 use crate::size_numbers::SizeNumbers;
 use crate::sizes::BadSize;
 use crate::sizes::SizeName;
@@ -17,7 +18,7 @@ const MOST_WINDOW: u32 = 2048;
 
 /// Refuses a size that is 0 or over its limit.
 fn test(name: SizeName, size: u32, most: u32) -> Result<(), BadSize>
-    ensures { λ r. ⌜ tested r ≡ limited (place name) size most ⌝ }
+    ensures { λ r. ⌜ mapped (λ x. x) refused r ≡ limited (place name) size most ⌝ }
 {
     if size < 1 || most < size {
         return Err(BadSize(name));
@@ -28,7 +29,7 @@ fn test(name: SizeName, size: u32, most: u32) -> Result<(), BadSize>
 impl Sizes {
     /// Sizes from plain numbers; the first bad one, in the order of the fields, is named.
     pub fn new(n: SizeNumbers) -> Result<Sizes, BadSize>
-        ensures { λ r. ⌜ numbered r ≡ sizes-from n ⌝ }
+        ensures { λ r. ⌜ mapped numbersOf refused r ≡ sizes-from n ⌝ }
     {
         test(SizeName::CachePlaces, n.cache_places, MOST_CACHE_PLACES)?;
         test(SizeName::QueuePlaces, n.queue_places, MOST_QUEUE_PLACES)?;
