@@ -1,0 +1,6 @@
+//! Traces: bytes in, sizes and items out, faults by word place.
+pub mod fault;
+pub mod item;
+pub mod reader;
+mod sizes;
+mod word;
