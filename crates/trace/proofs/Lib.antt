@@ -1,2 +1,3 @@
+pub mod Hints
 pub mod Items
 pub mod Words

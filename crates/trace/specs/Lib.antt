@@ -2,3 +2,4 @@ pub mod Words
 pub mod Items
 pub mod Sizes
 pub mod Reading
+pub mod Hints

@@ -10,6 +10,8 @@ use crate::fault::Fault;
 use crate::word::Expected;
 use crate::word::Word;
 
+mod hints;
+
 /// What an item asks of the server: a write fills the page with its byte.
 #[derive(Clone, Copy, PartialEq, Eq, Debug)]
 pub enum Call {
