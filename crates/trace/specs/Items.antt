@@ -54,12 +54,15 @@ asked place w bs call rest next = record {
   place = next;
 }
 
+-- a write, by its fill word and what follows that
+abbrev pub filled : ℕ → Word → List ℕ → Word × List ℕ → Result Step (ℕ × ℕ)
+filled place w bs fill = Ok (asked place w bs (Write (fill .0 .value)) (fill .1) (place + 2 + w .count))
+
 -- a read ends with its hint words, and a write with the fill word after them
 abbrev pub called : ℕ → Word → List ℕ → List ℕ → Result Step (ℕ × ℕ)
 called place w bs after =
     cond (eqb (w .kind) 1) (Ok (asked place w bs Read after (place + 1 + w .count)))
-    (then (word-at Fill after (place + 1 + w .count))
-    (λ fill. Ok (asked place w bs (Write (fill .0 .value)) (fill .1) (place + 2 + w .count))))
+    (then (word-at Fill after (place + 1 + w .count)) (filled place w bs))
 
 abbrev pub item-at : List ℕ → ℕ → Result Step (ℕ × ℕ)
 item-at bs place =

@@ -3,3 +3,5 @@ pub mod Items
 pub mod Sizes
 pub mod Reading
 pub mod Hints
+pub mod Encoding
+pub mod Whole

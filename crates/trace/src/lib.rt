@@ -3,4 +3,5 @@ pub mod fault;
 pub mod item;
 pub mod reader;
 mod sizes;
+pub mod whole;
 mod word;
