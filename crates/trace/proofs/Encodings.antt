@@ -85,7 +85,8 @@ written-bytes a b c d rest h z =
     record {
       bytes = cc;
       narrow = record { kind = omega arith; client = omega arith; count = omega arith; value = omega arith };
-      others = h .1 .1 .1 .1 }
+      others = h .1 .1 .1 .1;
+    }
 
 pub written-word : (bs : List ℕ) (w : Word) (rest : List ℕ) → Bytes bs → first-word bs ≡ Some (w, rest) → w .zero ≡ 0 → Written bs w rest
 written-word [] w rest h e z = absurd (none-some (w, rest) e)

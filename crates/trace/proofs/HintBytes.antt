@@ -86,7 +86,8 @@ hints-sound (suc n) bs place rest b h =
       many = ap suc (i .many);
       narrow = (r .written .narrow .value, i .narrow);
       bytes = hint-word bs w (s .0 .1) r ∙ ap (λ x. word 3 0 0 (w .value) ++ x) (i .bytes);
-      others = i .others }
+      others = i .others;
+    }
 
 pub hints-complete : (vs : List ℕ) → All (λ v. v < 2 ^ 16) vs → (rest : List ℕ) (place : ℕ) →
     hint-words (length vs) (hint-bytes vs ++ rest) place ≡ Ok rest

@@ -49,16 +49,17 @@ module _ (place : ℕ) (w : Word) (bs after : List ℕ) (i : HintsWritten (w .co
       let said = request-said place w (i .values) bs after (i .bytes) (i .many) call rest next in
       let lawful : LawfulRequest a = record { fill = fill; page = r .narrow .value; client = r .narrow .client; count = omega (arith, i .many); values = i .narrow } in
       let bytes : start ≡ request-bytes a ++ rest =
-            r .bytes
-            ∙ ap (λ k. word k (w .client) (w .count) (w .value) ++ bs) kind
-            ∙ ap (λ n. word (kind-of call) (w .client) n (w .value) ++ bs) (sym (i .many))
-            ∙ ap (λ x. word (kind-of call) (w .client) (length (i .values)) (w .value) ++ x)
-              (i .bytes ∙ ap (λ x. hint-bytes (i .values) ++ x) ends ∙ sym (append-assoc (hint-bytes (i .values)) (fill-bytes call) rest))
+      r .bytes
+      ∙ ap (λ k. word k (w .client) (w .count) (w .value) ++ bs) kind
+      ∙ ap (λ n. word (kind-of call) (w .client) n (w .value) ++ bs) (sym (i .many))
+      ∙ ap (λ x. word (kind-of call) (w .client) (length (i .values)) (w .value) ++ x)
+      (i .bytes ∙ ap (λ x. hint-bytes (i .values) ++ x) ends ∙ sym (append-assoc (hint-bytes (i .values)) (fill-bytes call) rest))
       in
       record {
         lawful = subst LawfulRequest (sym said) lawful;
         bytes = bytes ∙ ap (λ x. request-bytes x ++ rest) (sym said);
-        others = others }
+        others = others;
+      }
 
 -- a fill word that is read has its byte and nothing else
 fill-word : (bs : List ℕ) (w : Word) (rest : List ℕ) → WordRead Fill bs w rest → (bs ≡ word 4 0 0 (w .value) ++ rest) × (w .value < 2 ^ 8)
@@ -146,13 +147,14 @@ item-complete a h rest place =
     let front = hint-bytes vs ++ fill-bytes call ++ rest in
     let split : front ≡ hint-bytes vs ++ (fill-bytes call ++ rest) = append-assoc (hint-bytes vs) (fill-bytes call) rest in
     let first = word-complete Item (kind-of call) (a .hints .client) (length vs) (a .page) (kind-narrow call) (h .client) (omega arith) (h .page)
-          (kind-starts call (a .hints .client) (length vs) (a .page)) (and-from (leb (length vs) 5) true (le-leb (length vs) 5 (h .count)) refl) front place in
+    (kind-starts call (a .hints .client) (length vs) (a .page)) (and-from (leb (length vs) 5) true (le-leb (length vs) 5 (h .count)) refl) front place in
     record {
       step = asked place w front call rest (ending place call (length vs));
       read =
-        ap (λ r. then r (λ t. then (hint-words (t .0 .count) (t .1) (place + 1)) (called place (t .0) (t .1)))) first
-        ∙ ap (λ r. then r (called place w front))
+          ap (λ r. then r (λ t. then (hint-words (t .0 .count) (t .1) (place + 1)) (called place (t .0) (t .1)))) first
+          ∙ ap (λ r. then r (called place w front))
           (ap (λ x. hint-words (length vs) x (place + 1)) split ∙ hints-complete vs (h .values) (fill-bytes call ++ rest) (place + 1))
-        ∙ called-complete place call (h .fill) (a .hints .client) (length vs) (a .page) front rest;
+          ∙ called-complete place call (h .fill) (a .hints .client) (length vs) (a .page) front rest;
       says = request-said place w vs front (fill-bytes call ++ rest) split refl call rest (ending place call (length vs));
-      left = refl }
+      left = refl;
+    }

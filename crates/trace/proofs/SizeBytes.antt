@@ -68,9 +68,10 @@ size-next order v ho hv rest place k =
 -- what is made of the size words after the fifth, the fourth, and so on
 abbrev five : ℕ → ℕ → ℕ → ℕ → ℕ → Word × List ℕ → Result Header (ℕ × ℕ)
 five place c q k j t = Ok (record {
-    sizes = record { «cache_places» = c; «queue_places» = q; «hint_rows» = k; «page_rows» = j; window = t .0 .value };
-    rest = t .1;
-    place = place + 5 })
+  sizes = record { «cache_places» = c; «queue_places» = q; «hint_rows» = k; «page_rows» = j; window = t .0 .value };
+  rest = t .1;
+  place = place + 5;
+})
 
 abbrev four : ℕ → ℕ → ℕ → ℕ → Word × List ℕ → Result Header (ℕ × ℕ)
 four place c q k t = then (word-at (Size 4) (t .1) (place + 4)) (five place c q k (t .0 .value))
@@ -96,38 +97,49 @@ module _ (place : ℕ) (h : Header) where
       let r = size-read 4 bs (place + 4) (five place c q k j) h b e in
       let x = r .next in
       let same : record {
-            sizes = record { «cache_places» = c; «queue_places» = q; «hint_rows» = k; «page_rows» = j; window = r .word-read .value };
-            rest = r .rest;
-            place = place + 5 } ≡ h = cc in
-      (record {
-        bytes = r .bytes ∙ ap (λ y. word 0 4 0 (y .sizes .window) ++ y .rest) same;
-        others = subst (λ y. Bytes (y .rest)) same (r .others) },
-      sym (ap (λ y. y .sizes .«cache_places») same), sym (ap (λ y. y .sizes .«queue_places») same),
-      sym (ap (λ y. y .sizes .«hint_rows») same), sym (ap (λ y. y .sizes .«page_rows») same))
+        sizes = record { «cache_places» = c; «queue_places» = q; «hint_rows» = k; «page_rows» = j; window = r .word-read .value };
+        rest = r .rest;
+        place = place + 5;
+      } ≡ h = cc in (
+        record {
+          bytes = r .bytes ∙ ap (λ y. word 0 4 0 (y .sizes .window) ++ y .rest) same;
+          others = subst (λ y. Bytes (y .rest)) same (r .others);
+        },
+        sym (ap (λ y. y .sizes .«cache_places») same),
+        sym (ap (λ y. y .sizes .«queue_places») same),
+        sym (ap (λ y. y .sizes .«hint_rows») same),
+        sym (ap (λ y. y .sizes .«page_rows») same),
+      )
 
   three-sound : (c q k : ℕ) (bs : List ℕ) → Bytes bs → then (word-at (Size 3) bs (place + 3)) (four place c q k) ≡ Ok h →
       From h bs (from-pages (h .sizes) (h .rest)) × (h .sizes .«cache_places» ≡ c) × (h .sizes .«queue_places» ≡ q) × (h .sizes .«hint_rows» ≡ k)
   three-sound c q k bs b e =
       let r = size-read 3 bs (place + 3) (four place c q k) h b e in
-      let i = four-sound c q k (r .word-read .value) (r .rest) (r .others) (r .next) in
-      (record { bytes = r .bytes ∙ ap (λ v. word 0 3 0 v ++ r .rest) (sym (i .4)) ∙ ap (λ y. word 0 3 0 (h .sizes .«page_rows») ++ y) (i .0 .bytes); others = i .0 .others },
-      i .1, i .2, i .3)
+      let i = four-sound c q k (r .word-read .value) (r .rest) (r .others) (r .next) in (
+        record { bytes = r .bytes ∙ ap (λ v. word 0 3 0 v ++ r .rest) (sym (i .4)) ∙ ap (λ y. word 0 3 0 (h .sizes .«page_rows») ++ y) (i .0 .bytes); others = i .0 .others },
+        i .1,
+        i .2,
+        i .3,
+      )
 
   two-sound : (c q : ℕ) (bs : List ℕ) → Bytes bs → then (word-at (Size 2) bs (place + 2)) (three place c q) ≡ Ok h →
       From h bs (from-hints (h .sizes) (h .rest)) × (h .sizes .«cache_places» ≡ c) × (h .sizes .«queue_places» ≡ q)
   two-sound c q bs b e =
       let r = size-read 2 bs (place + 2) (three place c q) h b e in
-      let i = three-sound c q (r .word-read .value) (r .rest) (r .others) (r .next) in
-      (record { bytes = r .bytes ∙ ap (λ v. word 0 2 0 v ++ r .rest) (sym (i .3)) ∙ ap (λ y. word 0 2 0 (h .sizes .«hint_rows») ++ y) (i .0 .bytes); others = i .0 .others },
-      i .1, i .2)
+      let i = three-sound c q (r .word-read .value) (r .rest) (r .others) (r .next) in (
+        record { bytes = r .bytes ∙ ap (λ v. word 0 2 0 v ++ r .rest) (sym (i .3)) ∙ ap (λ y. word 0 2 0 (h .sizes .«hint_rows») ++ y) (i .0 .bytes); others = i .0 .others },
+        i .1,
+        i .2,
+      )
 
   one-sound : (c : ℕ) (bs : List ℕ) → Bytes bs → then (word-at (Size 1) bs (place + 1)) (two place c) ≡ Ok h →
       From h bs (from-queue (h .sizes) (h .rest)) × (h .sizes .«cache_places» ≡ c)
   one-sound c bs b e =
       let r = size-read 1 bs (place + 1) (two place c) h b e in
-      let i = two-sound c (r .word-read .value) (r .rest) (r .others) (r .next) in
-      (record { bytes = r .bytes ∙ ap (λ v. word 0 1 0 v ++ r .rest) (sym (i .2)) ∙ ap (λ y. word 0 1 0 (h .sizes .«queue_places») ++ y) (i .0 .bytes); others = i .0 .others },
-      i .1)
+      let i = two-sound c (r .word-read .value) (r .rest) (r .others) (r .next) in (
+        record { bytes = r .bytes ∙ ap (λ v. word 0 1 0 v ++ r .rest) (sym (i .2)) ∙ ap (λ y. word 0 1 0 (h .sizes .«queue_places») ++ y) (i .0 .bytes); others = i .0 .others },
+        i .1,
+      )
 
   size-words-sound : (bs : List ℕ) → Bytes bs → size-words bs place ≡ Ok h → From h bs (size-bytes (h .sizes) (h .rest))
   size-words-sound bs b e =
@@ -163,10 +175,10 @@ sizes-complete z h rest place =
     let k = z .«hint_rows» in
     let j = z .«page_rows» in
     let read : size-words (size-bytes z rest) place ≡ Ok (record { sizes = z; rest = rest; place = place + 5 }) =
-          size-next 0 c (omega arith) (omega arith) (from-queue z rest) place (one place)
-          ∙ size-next 1 q (omega arith) (omega arith) (from-hints z rest) (place + 1) (two place c)
-          ∙ size-next 2 k (omega arith) (omega arith) (from-pages z rest) (place + 2) (three place c q)
-          ∙ size-next 3 j (omega arith) (omega arith) (from-window z rest) (place + 3) (four place c q k)
-          ∙ size-next 4 (z .window) (omega arith) (omega arith) rest (place + 4) (five place c q k j) in
+    size-next 0 c (omega arith) (omega arith) (from-queue z rest) place (one place)
+    ∙ size-next 1 q (omega arith) (omega arith) (from-hints z rest) (place + 1) (two place c)
+    ∙ size-next 2 k (omega arith) (omega arith) (from-pages z rest) (place + 2) (three place c q)
+    ∙ size-next 3 j (omega arith) (omega arith) (from-window z rest) (place + 3) (four place c q k)
+    ∙ size-next 4 (z .window) (omega arith) (omega arith) rest (place + 4) (five place c q k j) in
     ap (λ r. then r (λ x. then (in-limits (x .sizes) place) (λ _. Ok x))) read
     ∙ ap (λ r. then (mapped {D = ℕ × ℕ} (λ x. x) (λ f. (f .0, place + f .1)) r) (λ _. Ok (record { sizes = z; rest = rest; place = place + 5 }))) h

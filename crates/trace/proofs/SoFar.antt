@@ -41,15 +41,23 @@ item-shortens {m = m} s q e =
 pub so-far-more : {bs : List ℕ} {m : Left} {n : ℕ} → SoFar bs m n → (q : Request) → item-read m ≡ Ok (Some q) →
     SoFar bs (after-item m) (n + 1)
 so-far-more {m = m} s q e = record {
-    sizes = s .sizes;
-    requests = s .requests ++ meant q ∷ [];
-    sized = s .sized;
-    reads = reads-push (s .reads) q e;
-    many = length-push (s .requests) (meant q) ∙ ap (λ k. k + 1) (s .many);
-    others = item-passed m q (s .others) e .others;
-    room = omega (arith, item-shortens s q e, s .room) }
+  sizes = s .sizes;
+  requests = s .requests ++ meant q ∷ [];
+  sized = s .sized;
+  reads = reads-push (s .reads) q e;
+  many = length-push (s .requests) (meant q) ∙ ap (λ k. k + 1) (s .many);
+  others = item-passed m q (s .others) e .others;
+  room = omega (arith, item-shortens s q e, s .room);
+}
 
 -- at the end
 pub so-far-all : {bs : List ℕ} {m : Left} {n : ℕ} → SoFar bs m n → item-read m ≡ Ok None → AllRead bs n
 so-far-all {m = m} s e = record {
-    sizes = s .sizes; requests = s .requests; last = m; sized = s .sized; reads = s .reads; ends = e; many = s .many }
+  sizes = s .sizes;
+  requests = s .requests;
+  last = m;
+  sized = s .sized;
+  reads = s .reads;
+  ends = e;
+  many = s .many;
+}

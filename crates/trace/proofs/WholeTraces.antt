@@ -79,7 +79,8 @@ item-passed l q b e =
     record {
       lawful = subst (λ x. LawfulRequest (meant x)) (s .item) (w .lawful);
       bytes = w .bytes ∙ ap (λ x. request-bytes (meant x) ++ s .step .rest) (s .item) ∙ ap (λ x. request-bytes (meant q) ++ x) rest;
-      others = subst Bytes rest (w .others) }
+      others = subst Bytes rest (w .others);
+    }
 
 -- all items that are read were written, one after another
 pub record AllPassed (l : Left) (asked : List Asked) (m : Left) : Type 0 where
@@ -95,7 +96,8 @@ reads-sound {l} {m} (more {asked = asked} q e r) b =
     record {
       lawful = (p .lawful, i .lawful);
       bytes = p .bytes ∙ ap (λ x. request-bytes (meant q) ++ x) (i .bytes) ∙ sym (append-assoc (request-bytes (meant q)) (joined request-bytes asked) (m .rest));
-      others = i .others }
+      others = i .others;
+    }
 
 -- one more item at the end
 pub reads-push : {l m : Left} {asked : List Asked} → Reads l asked m → (q : Request) → item-read m ≡ Ok (Some q) →
@@ -118,7 +120,8 @@ next-is l a rest h e =
     record {
       item = i .step .item;
       read = ap told next;
-      left = ap (λ r. passed-item l r .rest) next ∙ i .left }
+      left = ap (λ r. passed-item l r .rest) next ∙ i .left;
+    }
 
 -- what is left of requests that were written, after some are read
 record Remaining (m : Left) : Type 0 where
@@ -160,25 +163,26 @@ all-read-encodes bs n b a =
     let rest : h .header .rest ≡ after-sizes (first bs) .rest = sym (ap (λ l. l .rest) (h .left)) in
     let p = reads-sound (a .reads) (subst Bytes rest (w .others)) in
     let items : after-sizes (first bs) .rest ≡ joined request-bytes (a .requests) =
-          p .bytes ∙ ap (λ x. joined request-bytes (a .requests) ++ x) (nothing-left (a .last) (a .ends)) ∙ append-nil (joined request-bytes (a .requests)) in
+    p .bytes ∙ ap (λ x. joined request-bytes (a .requests) ++ x) (nothing-left (a .last) (a .ends)) ∙ append-nil (joined request-bytes (a .requests)) in
     record {
       sizes = h .header .sizes;
       requests = a .requests;
       lawful-sizes = w .lawful;
       lawful-requests = p .lawful;
       written = w .bytes ∙ ap (size-bytes (h .header .sizes)) (rest ∙ items);
-      many = a .many }
+      many = a .many;
+    }
 
 -- an encoding has no fault
 pub fault-no-encoding : (bs : List ℕ) (fault : ℕ × ℕ) → FirstFault bs fault → (n : ℕ) → Encodes bs n → ⊥
 fault-no-encoding bs fault f n e =
     let sizes : sizes-at bs 0 ≡ Ok (record { sizes = e .sizes; rest = joined request-bytes (e .requests); place = 5 }) =
-          ap (λ x. sizes-at x 0) (e .written) ∙ sizes-complete (e .sizes) (e .lawful-sizes) (joined request-bytes (e .requests)) 0 in
+    ap (λ x. sizes-at x 0) (e .written) ∙ sizes-complete (e .sizes) (e .lawful-sizes) (joined request-bytes (e .requests)) 0 in
     elim f [
-      inl d ↦ (let x = ap (mapped (λ h. h .sizes) (λ (g : ℕ × ℕ). g)) sizes in let z : _≡_ {A = ℕ} 0 1 = cc in omega arith)
-    | inr a ↦
-      (let r = reads-complete (a .reads) (e .requests) (e .lawful-requests) (ap (λ y. passed-sizes (first bs) y .rest) sizes) in
-      no-fault (a .last) fault (r .requests) (r .lawful) (r .bytes) (a .faults))
+      | inl d ↦ (let x = ap (mapped (λ h. h .sizes) (λ (g : ℕ × ℕ). g)) sizes in let z : _≡_ {A = ℕ} 0 1 = cc in omega arith)
+      | inr a ↦
+          (let r = reads-complete (a .reads) (e .requests) (e .lawful-requests) (ap (λ y. passed-sizes (first bs) y .rest) sizes) in
+          no-fault (a .last) fault (r .requests) (r .lawful) (r .bytes) (a .faults))
     ]
 
 -- what is left after the sizes

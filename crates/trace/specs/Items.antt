@@ -6,10 +6,11 @@
 --   Step         an item, the bytes after it, and their word place
 --   item-at      the item at the front of some bytes
 --   next-at      the same, or none at the end of a trace
+--   Hinted       an item's client and hint words are those of a hint set
 --   request, stepped   the code's item and step in these words
 use mathlib.Core.Bool.{cond}
 use mathlib.Core.List.{List, []}
-use Prim.Native.Nat.{ℕ, zero, suc, _+_, _*_}
+use Prim.Native.Nat.{ℕ, zero, suc, _+_, _*_, _≤_}
 use denote.Ref.{now}
 use lib.Dec.{eqb}
 use lib.ListN.{length, take}
@@ -74,6 +75,9 @@ some (Err f) = Err f
 
 abbrev pub next-at : List ℕ → ℕ → Result (Option Step) (ℕ × ℕ)
 next-at bs place = cond (eqb (length bs) 0) (Ok None) (some (item-at bs place))
+
+abbrev pub Hinted : Request → Type 0
+Hinted q = (q .client ≤ 15) × (length (q .hints) ≤ 20)
 
 abbrev pub request : code.Item → Request
 request i = record { place = i .place; call = i .call; page = i .page; client = i .client; hints = now (i .hints) }

@@ -22,14 +22,15 @@ use Rattle.trace.specs.Reading.{Left, after-item, after-sizes, item-read, size
 
 abbrev pub meant : Request → Asked
 meant q = record {
-    call = q .call;
-    page = q .page;
-    hints = record { client = q .client; values = values-of (q .hints) } }
+  call = q .call;
+  page = q .page;
+  hints = record { client = q .client; values = values-of (q .hints) };
+}
 
 pub data Reads : Left → List Asked → Left → Type 0 where
   stop : {l : Left} → Reads l [] l
   more : {l m : Left} {asked : List Asked} (q : Request) → item-read l ≡ Ok (Some q) → Reads (after-item l) asked m →
-    Reads l (meant q ∷ asked) m
+      Reads l (meant q ∷ asked) m
 
 -- a reader at the first word
 abbrev pub first : List ℕ → Left

@@ -5,7 +5,7 @@ ghost use lib.ListN.{length, take};
 ghost use Rattle.std.specs.Results.{mapped};
 ghost use Rattle.std.specs.Vec.{made};
 ghost use Rattle.trace.specs.Words.{refused};
-ghost use Rattle.trace.specs.Items.{called, hint-words, item-at, stepped, then};
+ghost use Rattle.trace.specs.Items.{Hinted, called, hint-words, item-at, request, stepped, then};
 use crate::fault::Fault;
 use crate::word::Expected;
 use crate::word::Word;
@@ -60,8 +60,10 @@ fn front(bytes: &[u8], n: usize) -> &[u8]
 
 /// The item that starts at the place with the word, which the bytes follow.
 fn item_with<'t>(place: usize, word: Word, bytes: &'t [u8]) -> Result<Step<'t>, Fault>
-    requires { ⌜ 4 * place + 4 + length (now bytes) < 2 ^ 64 ⌝ ∗ ⌜ word .count ≤ 5 ⌝ }
+    requires room { ⌜ 4 * place + 4 + length (now bytes) < 2 ^ 64 ⌝ }
+    requires narrow { ⌜ word .client ≤ 15 ⌝ ∗ ⌜ word .count ≤ 5 ⌝ }
     ensures value { λ r. ⌜ mapped stepped refused r ≡ then (hint-words (word .count) (now (bytes .entry)) (place + 1)) (called place word (now (bytes .entry))) ⌝ }
+    ensures hinted { λ r. ⌜ made r (λ s. Hinted (request (s .item))) ⌝ }
     ensures len { λ r. ⌜ made r (λ s. 4 * (s .place) + length (now (s .rest)) ≡ 4 * place + 4 + length (now (bytes .entry))) ⌝ }
 {
     let after = skip_hints(bytes, word.count, place + 1)?;
@@ -101,6 +103,7 @@ fn item_with<'t>(place: usize, word: Word, bytes: &'t [u8]) -> Result<Step<'t>, 
 pub(crate) fn read_item(bytes: &[u8], place: usize) -> Result<Step, Fault>
     requires { ⌜ 4 * place + length (now bytes) < 2 ^ 64 ⌝ }
     ensures value { λ r. ⌜ mapped stepped refused r ≡ item-at (now (bytes .entry)) place ⌝ }
+    ensures hinted { λ r. ⌜ made r (λ s. Hinted (request (s .item))) ⌝ }
     ensures len { λ r. ⌜ made r (λ s. 4 * (s .place) + length (now (s .rest)) ≡ 4 * place + length (now (bytes .entry))) ⌝ }
 {
     let first = Expected::Item.take(bytes, place)?;

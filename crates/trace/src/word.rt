@@ -1,6 +1,6 @@
 ghost use mathlib.Core.Bool.{true};
 ghost use mathlib.Core.Path.{_≡_};
-ghost use Prim.Native.Nat.{_+_};
+ghost use Prim.Native.Nat.{_+_, _≤_};
 ghost use lib.ListN.{length};
 ghost use Rattle.std.specs.Slices.{found};
 ghost use Rattle.std.specs.Options.{mapped as mapSome};
@@ -51,6 +51,7 @@ fn split(word: u32) -> Word
 /// The first word of the bytes, high byte first, or none where they end inside it.
 fn take_word(bytes: &[u8]) -> Option<Taken>
     ensures value { λ r. ⌜ mapSome took r ≡ first-word (now (bytes .entry)) ⌝ }
+    ensures narrow { λ r. ⌜ found r (λ t. t .word .client ≤ 15) ⌝ }
     ensures len { λ r. ⌜ found r (λ t. 4 + length (now (t .rest)) ≡ length (now (bytes .entry))) ⌝ }
 {
     let [a, b, c, d, rest @ ..] = bytes else {
@@ -93,6 +94,7 @@ impl Expected {
     pub fn take(self, bytes: &[u8], place: usize) -> Result<Taken, Fault>
         ensures value { λ r. ⌜ mapped took refused r ≡ word-at self (now (bytes .entry)) place ⌝ }
         ensures fits { λ r. ⌜ made r (λ t. bits-fit self (t .word) ≡ true) ⌝ }
+        ensures narrow { λ r. ⌜ made r (λ t. t .word .client ≤ 15) ⌝ }
         ensures len { λ r. ⌜ made r (λ t. 4 + length (now (t .rest)) ≡ length (now (bytes .entry))) ⌝ }
     {
         let Some(taken) = take_word(bytes) else {

@@ -46,4 +46,5 @@ within-limits n m e =
       hints = below 2 (n .«hint_rows») 256 (c .0);
       pages = below 3 (n .«page_rows») 256 (d .0);
       window = below 4 (n .window) 2048 (f .0);
-      kept = e ∙ sym (f .1) }
+      kept = e ∙ sym (f .1);
+    }

@@ -1,9 +1,11 @@
 ghost use mathlib.Core.Path.{_≡_};
 ghost use Rattle.std.specs.Options.{mapped as mapSome};
 ghost use Rattle.std.specs.Results.{mapped};
+ghost use Rattle.std.specs.Slices.{found};
+ghost use Rattle.std.specs.Vec.{made};
 ghost use Rattle.values.specs.Sizes.{numbersOf};
 ghost use Rattle.trace.specs.Words.{refused};
-ghost use Rattle.trace.specs.Items.{request};
+ghost use Rattle.trace.specs.Items.{Hinted, request};
 ghost use Rattle.trace.specs.Reading.{after-item, after-sizes, item-read, left, sizes-read};
 use crate::fault::Fault;
 use crate::item::Item;
@@ -42,6 +44,7 @@ impl<'t> Reader<'t> {
     pub fn next(&mut self) -> Result<Option<Item<'t>>, Fault>
         ensures value { λ r. ⌜ mapped (mapSome request) refused r ≡ item-read (left (now (self .entry))) ⌝ }
         ensures after { λ _. ⌜ left (now (self .exit)) ≡ after-item (left (now (self .entry))) ⌝ }
+        ensures hinted { λ r. ⌜ made r (λ o. found o (λ i. Hinted (request i))) ⌝ }
     {
         if self.rest.is_empty() {
             return Ok(None);

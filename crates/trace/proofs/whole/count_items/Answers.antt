@@ -45,7 +45,7 @@ returns-in-Break--item c =
     let p = err-from-errBy (c .from-residual-in-Break--item .result) (c .from-residual-in-Break--item .ensures .1) in
     let fault = refused (c .in-Break--item .field-0 .0) in
     let first-fault : FirstFault bs fault =
-          inr (record { requests = s .requests; last = left (c .loop-item .reader); reads = s .reads; faults = sym (c .in-Break--item .ensures tt .value) }) in
+    inr (record { requests = s .requests; last = left (c .loop-item .reader); reads = s .reads; faults = sym (c .in-Break--item .ensures tt .value) }) in
     rw (p .1, p .2) (record { reading = first-fault; format = fault-no-encoding bs fault first-fault })
 
 item-is : (c : need.In-Some) → item-read (left (c .loop-item .reader)) ≡ Ok (Some (request (c .in-Some .-item)))
@@ -63,6 +63,6 @@ loop-item-again c =
 pub returns : need.returns
 returns c =
     let ended : item-read (left (c .loop-item .reader)) ≡ Ok None =
-          sym (c .in-Continue--item .ensures tt .value) ∙ ap (λ o. Ok (mapSome request o)) (c .in-rest .is) in
+    sym (c .in-Continue--item .ensures tt .value) ∙ ap (λ o. Ok (mapSome request o)) (c .in-rest .is) in
     let all = so-far-all (c .loop-item .inv) ended in
     record { reading = all; format = all-read-encodes _ _ (bytes (c .args .trace .now) (c .typed .trace)) all }

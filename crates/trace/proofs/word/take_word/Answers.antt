@@ -14,5 +14,6 @@ returns c =
     let h : 4 ≤ length bs = omega (arith, ltb-false) in
     record {
       value = first-word-is bs (c .split .result) h (c .split .ensures ∙ ap parts (c .from-be-bytes-word .ensures));
+      narrow = omega (arith, ap (λ w. w .client) (c .split .ensures));
       len = omega (arith, h, ap length (take-rest bs 4), length-drop 4 bs);
     }
