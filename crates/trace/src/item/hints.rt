@@ -1,11 +1,13 @@
+ghost use mathlib.Core.Bool.{true};
 ghost use mathlib.Core.List.{map};
 ghost use mathlib.Core.Path.{_≡_};
 ghost use Prim.Native.Nat.{_+_, _*_, _≤_};
 ghost use lib.ListN.{length};
 ghost use Rattle.std.specs.Iters.{counting};
-ghost use Rattle.std.specs.Results.{mapped};
+ghost use Rattle.std.specs.Results.{isOk, mapped};
 ghost use Rattle.values.specs.HintSets.{hints-from, meaning, refused};
 ghost use Rattle.trace.specs.Hints.{value-at, values-of};
+ghost use Rattle.trace.specs.Items.{Hinted, request};
 use crate::item::Item;
 use values::hint_set::BadHintSet;
 use values::hint_set::HintSet;
@@ -39,9 +41,10 @@ fn hint_set_of(client: u8, words: &[u8], values: &mut [u16]) -> Result<HintSet, 
 }
 
 impl<'t> Item<'t> {
-    /// The hint set of the item. One that a reader gave always has one.
+    /// The hint set of the item. An item that a reader gave has one.
     pub fn hint_set(&self) -> Result<HintSet, BadHintSet>
-        ensures { λ r. ⌜ mapped meaning refused r ≡ hints-from (now (self .entry) .client) (values-of (now (now (self .entry) .hints))) ⌝ }
+        ensures value { λ r. ⌜ mapped meaning refused r ≡ hints-from (now (self .entry) .client) (values-of (now (now (self .entry) .hints))) ⌝ }
+        ensures succeeds { λ r. ⌜ (Hinted (request (now (self .entry))) → isOk r ≡ true) ⌝ }
     {
         let count = self.hints.len() / 4;
         if count > MOST_HINTS {
