@@ -8,6 +8,7 @@ ghost use Rattle.trace.specs.Words.{refused};
 ghost use Rattle.trace.specs.Items.{Hinted, called, hint-words, item-at, request, stepped, then};
 use crate::fault::Fault;
 use crate::word::Expected;
+use crate::word::READ;
 use crate::word::Word;
 
 mod hints;
@@ -58,6 +59,19 @@ fn front(bytes: &[u8], n: usize) -> &[u8]
     &bytes[0..n]
 }
 
+/// The item of a word that starts one.
+fn item_of<'t>(word: Word, place: usize, call: Call, hints: &'t [u8]) -> Item<'t>
+    ensures { λ r. ⌜ request r ≡ record { place = place; call = call; page = word .value; client = word .client; hints = now (hints .entry) } ⌝ }
+{
+    Item {
+        place,
+        call,
+        page: word.value,
+        client: word.client,
+        hints,
+    }
+}
+
 /// The item that starts at the place with the word, which the bytes follow.
 fn item_with<'t>(place: usize, word: Word, bytes: &'t [u8]) -> Result<Step<'t>, Fault>
     requires room { ⌜ 4 * place + 4 + length (now bytes) < 2 ^ 64 ⌝ }
@@ -69,14 +83,8 @@ fn item_with<'t>(place: usize, word: Word, bytes: &'t [u8]) -> Result<Step<'t>, 
     let after = skip_hints(bytes, word.count, place + 1)?;
     let hints = front(bytes, 4 * word.count as usize);
     let next = place + 1 + word.count as usize;
-    if word.kind == 1 {
-        let item = Item {
-            place,
-            call: Call::Read,
-            page: word.value,
-            client: word.client,
-            hints,
-        };
+    if word.kind == READ {
+        let item = item_of(word, place, Call::Read, hints);
         return Ok(Step {
             item,
             rest: after,
@@ -84,14 +92,7 @@ fn item_with<'t>(place: usize, word: Word, bytes: &'t [u8]) -> Result<Step<'t>, 
         });
     }
     let fill = Expected::Fill.take(after, next)?;
-    let call = Call::Write(fill.word.value as u8);
-    let item = Item {
-        place,
-        call,
-        page: word.value,
-        client: word.client,
-        hints,
-    };
+    let item = item_of(word, place, Call::Write(fill.word.value as u8), hints);
     Ok(Step {
         item,
         rest: fill.rest,

@@ -3,5 +3,7 @@ pub mod fault;
 pub mod item;
 pub mod reader;
 mod sizes;
+#[cfg(test)]
+mod tests;
 pub mod whole;
 mod word;

@@ -10,6 +10,18 @@ ghost use Rattle.trace.specs.Words.{bits-fit, first-word, kind-fits, parts, re
 use crate::fault::Cause;
 use crate::fault::Fault;
 
+const SIZE: u8 = 0;
+
+pub const READ: u8 = 1;
+
+const WRITE: u8 = 2;
+
+const HINT: u8 = 3;
+
+const FILL: u8 = 4;
+
+const MOST_HINTS: u8 = 5;
+
 /// A word of a trace, taken apart: bits 31 to 28, 27 to 24, 23 to 20, 19 to 16, and 15 to 0.
 #[derive(Clone, Copy)]
 pub struct Word {
@@ -69,10 +81,10 @@ impl Expected {
         ensures { λ r. ⌜ r ≡ kind-fits self word ⌝ }
     {
         match self {
-            Expected::Size(_) => word.kind == 0,
-            Expected::Item => word.kind == 1 || word.kind == 2,
-            Expected::Hint => word.kind == 3,
-            Expected::Fill => word.kind == 4,
+            Expected::Size(_) => word.kind == SIZE,
+            Expected::Item => word.kind == READ || word.kind == WRITE,
+            Expected::Hint => word.kind == HINT,
+            Expected::Fill => word.kind == FILL,
         }
     }
 
@@ -81,7 +93,7 @@ impl Expected {
     {
         match self {
             Expected::Size(order) => word.client == order && word.count == 0 && word.zero == 0,
-            Expected::Item => word.count <= 5 && word.zero == 0,
+            Expected::Item => word.count <= MOST_HINTS && word.zero == 0,
             Expected::Hint => word.client == 0 && word.count == 0 && word.zero == 0,
             Expected::Fill => word.client == 0
                 && word.count == 0

@@ -12,7 +12,8 @@ returns-then-count-gt-MOST-HINTS c =
     let over = c .if-count-gt-MOST-HINTS .taken in
     record {
       value = too-many-hints (c .args .self .now .client) (c .args .self .now .hints .now) over;
-      succeeds = λ h. absurd (omega (arith, over, h .1)) }
+      succeeds = λ h. absurd (omega (arith, over, h .1));
+    }
 
 pub returns : need.returns
 returns c =
