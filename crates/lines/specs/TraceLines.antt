@@ -17,13 +17,7 @@ use Rattle.trace.specs.Words.{number}
 use Rattle.values.specs.declared.size_numbers.SizeNumbers.{SizeNumbers}
 use Rattle.values.specs.HintSets.{meaning}
 use Rattle.lines.specs.declared.trace_lines.ItemLine.{ItemLine}
-use Rattle.lines.specs.Parts.{dashed, listed}
-
--- parts of a line with a space between them
-abbrev pub spaced : List (List ℕ) → List ℕ
-spaced [] = []
-spaced (p ∷ []) = p
-spaced (p ∷ q ∷ ps) = p ++ (codes " " ++ spaced (q ∷ ps))
+use Rattle.lines.specs.Parts.{dashed, listed, spaced}
 
 abbrev pub size-lines : SizeNumbers → List ℕ
 size-lines n =

@@ -1,8 +1,8 @@
 ghost use Rattle.std.specs.declared.option.Option.the-variants.{Some};
-ghost use Rattle.values.specs.HintSets.{meaning};
+ghost use Rattle.values.specs.HintSets.{says};
 ghost use Rattle.lines.specs.Parts.{dashed, listed};
 use std::fmt;
-use values::hint_set::HintSet;
+use values::hint_numbers::HintNumbers;
 
 /// A number, or `-` for none.
 #[derive(Clone, Copy)]
@@ -19,15 +19,15 @@ pub impl fmt::Display for Dash as DashDisplay {
     }
 }
 
-/// The values of a hint set with commas between them, or `-` for none.
+/// The values of a hint set, by its plain numbers, with commas between them, or `-` for none.
 #[derive(Clone, Copy)]
-pub struct Values(pub HintSet);
+pub struct Values(pub HintNumbers);
 
 pub impl fmt::Display for Values as ValuesDisplay {
-    ghost shown = { λ v. Some (listed (meaning (v .0) .values)) };
+    ghost shown = { λ v. Some (listed (says (v .0) .values)) };
 
     fn fmt<W: fmt::Write>(&self, f: &mut fmt::Formatter<W>) -> fmt::Result {
-        let n = self.0.numbers();
+        let n = self.0;
         match n.count {
             0 => write!(f, "-"),
             1 => write!(f, "{}", n.first),

@@ -44,8 +44,9 @@ pub impl fmt::Display for ItemLine as ItemLineDisplay {
             Call::Read => ("r", Dash(None)),
             Call::Write(byte) => ("w", Dash(Some(byte as u32))),
         };
-        let client = self.hints.numbers().client;
-        let values = Values(self.hints);
+        let hints = self.hints.numbers();
+        let client = hints.client;
+        let values = Values(hints);
         write!(
             f,
             "{} {letter} {} {client} {values} {fill}",

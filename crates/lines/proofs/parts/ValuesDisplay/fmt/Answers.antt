@@ -1,0 +1,14 @@
+use mathlib.Core.List.{List, [], _∷_}
+use Prim.Native.Nat.{ℕ, _≤_}
+use native.Mathlib.Omega.{arith}
+use borrow.Author.Needs.{needs}
+use lib.ListN.{length}
+use Rattle.std.proofs.shelf.Lists.{take-all}
+use Rattle.lines.proofs.parts.ValuesDisplay.fmt.Needs as need
+
+-- a count of five or more takes all five
+pub returns-in-rest : need.returns-in-rest
+returns-in-rest g c =
+    let n = c .args .self .now .0 in
+    let all = take-all (n .count) (n .first ∷ n .second ∷ n .third ∷ n .fourth ∷ n .fifth ∷ []) (omega arith) in
+    simp all (search needs)
