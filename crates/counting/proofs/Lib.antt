@@ -1,0 +1,10 @@
+pub mod Afters
+pub mod Changes
+pub mod Countings
+pub mod Each
+pub mod Founds
+pub mod Invariants
+pub mod Puts
+pub mod Runs
+pub mod Steps
+pub mod Windows
