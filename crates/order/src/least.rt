@@ -3,7 +3,9 @@ ghost use mathlib.Core.Path.{_≡_};
 ghost use Prim.Native.Nat.{_<_};
 ghost use lib.ListN.{length};
 ghost use Rattle.std.specs.Places.{At};
-ghost use Rattle.order.specs.Least.{FirstLeast, least, lesser};
+ghost use Rattle.std.specs.Slices.{found};
+ghost use Rattle.std.specs.declared.option.Option.the-variants.{Some};
+ghost use Rattle.order.specs.Least.{FirstLeast, least, least-in, lesser};
 use crate::Order;
 
 /// A run of things with ranks. A rank may be held by the thing or be looked up elsewhere.
@@ -30,8 +32,8 @@ fn lesser<R: Order + Copy>(earlier: (usize, R), later: (usize, R)) -> (usize, R)
     }
 }
 
-/// The place of the least of a run that is not empty, the first among equals.
-pub fn least_place<R: Order + Copy, S: Ranked<R>>(run: &S) -> usize
+/// The place of the least of a run that is not empty.
+fn least_of_some<R: Order + Copy, S: Ranked<R>>(run: &S) -> usize
     requires { ⌜ 0 < length (S·Ranked .ranked (now run)) ⌝ }
     ensures value { λ r. ⌜ r ≡ least (R·Order .before) (S·Ranked .ranked (now (run .entry))) ⌝ }
     ensures first { λ r. ⌜ FirstLeast (R·Order .before) (S·Ranked .ranked (now (run .entry))) r ⌝ }
@@ -41,4 +43,16 @@ pub fn least_place<R: Order + Copy, S: Ranked<R>>(run: &S) -> usize
         least = lesser(least, (place, run.rank(place)));
     }
     least.0
+}
+
+/// The place of the least of a run, the first among equals; an empty run has none.
+pub fn least_place<R: Order + Copy, S: Ranked<R>>(run: &S) -> Option<usize>
+    ensures value { λ r. ⌜ r ≡ least-in (R·Order .before) (S·Ranked .ranked (now (run .entry))) ⌝ }
+    ensures first { λ r. ⌜ found r (λ place. FirstLeast (R·Order .before) (S·Ranked .ranked (now (run .entry))) place) ⌝ }
+    ensures some { λ r. ⌜ (0 < length (S·Ranked .ranked (now (run .entry))) → r ≡ Some (least (R·Order .before) (S·Ranked .ranked (now (run .entry))))) ⌝ }
+{
+    if run.many() < 1 {
+        return None;
+    }
+    Some(least_of_some(run))
 }

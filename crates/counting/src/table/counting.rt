@@ -32,7 +32,9 @@ fn written<K: Key + Copy>(used: &[Row<K>], room: usize, key: K, number: u32) -> 
     if used.len() < room {
         return (used.len(), Row::new(key, number, 0));
     }
-    let place = least_place(&used);
+    let Some(place) = least_place(&used) else {
+        unreachable()
+    };
     (place, used[place].replaced(key, number))
 }
 

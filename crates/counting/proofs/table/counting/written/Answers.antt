@@ -1,6 +1,9 @@
-use mathlib.Core.Path.{ap, sym, _∙_}
+use mathlib.Core.Path.{_≡_, ap, sym, _∙_}
+use Prim.Native.Nat.{ℕ}
 use native.Mathlib.Omega.{arith}
-use Rattle.counting.specs.Rows.{amend, put, raised, replaced}
+use Rattle.std.specs.declared.option.Option.the-variants.{Some}
+use Rattle.order.specs.Least.{least}
+use Rattle.counting.specs.Rows.{amend, put, raised, replaced, sooner}
 use Rattle.counting.proofs.Founds.{found-some}
 use Rattle.counting.proofs.Puts.{put-amend, put-end}
 use Rattle.counting.proofs.Steps.{counting-enters, counting-raises, counting-replaces}
@@ -33,17 +36,21 @@ returns-then-used-room g c =
       within = c .if-used-room .taken;
     }
 
+same : (x y : ℕ) → Some x ≡ Some y → x ≡ y
+same x y e = cc
+
 pub returns : need.returns
 returns g c =
     let m = g .K·Key .meaning in
     let used = c .args .used .now in
-    let place = c .least-place-place .result in
+    let place = c .in-Some-least-place .place in
     let replace = replaced (c .args .key) (c .args .number) in
-    let within = c .least-place-place .ensures .first .0 in
+    let chosen = c .in-Some-least-place .ensures tt in
+    let within = chosen .first .0 in
     record {
       rows =
           ap (put used place) (c .replaced .ensures ∙ ap replace (c .index-used-place .is)) ∙ put-amend replace used place _ within
-          ∙ ap (amend replace used) (c .least-place-place .ensures .value)
+          ∙ ap (amend replace used) (same place (least sooner used) (chosen .some (omega (arith, within))))
           ∙ sym (counting-replaces m (c .args .room) used (c .args .key) (c .args .number) (sym (c .in-rest .ensures tt .value)) (c .if-used-room .left));
       next = omega (arith, within);
       within = omega (arith, within, c .pre .fits);

@@ -5,7 +5,7 @@ use lib.ListN.{length}
 use Rattle.std.proofs.shelf.Bests.{first-best-none}
 use Rattle.order.specs.Least.{FirstLeast}
 use Rattle.order.proofs.Leasts.{least-is, lesser-more}
-use Rattle.order.proofs.least.least_place.Needs as need
+use Rattle.order.proofs.least.least_of_some.Needs as need
 
 pub loop-place-holds : need.loop-place-holds
 loop-place-holds g c = (first-best-none (g .R·Order·met .ranks) (g .S·Ranked .ranked (c .args .run .now)), c .rank .ensures)
