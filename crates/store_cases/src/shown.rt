@@ -3,10 +3,18 @@
 use std::error::AnyError;
 use std::fmt;
 use store::fault::Fault;
+use store::script::Access;
+use store::script::Call;
 use store::store::Store;
 
-/// What a buffer holds before a call.
+/// The longest buffer of a case.
+const LONGEST: usize = 257;
+
+/// What a buffer holds before a read.
 const BLANK: u8 = 238;
+
+/// What a write writes.
+const INK: u8 = 99;
 
 /// An answer as a line shows it.
 #[derive(Drop)]
@@ -26,44 +34,51 @@ impl fmt::Display for Answer as AnswerDisplay {
     }
 }
 
-/// Reads a page into a blank buffer, and shows the answer and the buffer's first byte.
-pub fn read<S: Store>(
+/// Reads into a blank buffer, and shows the answer and the buffer's first byte.
+fn read<S: Store>(
     rt: &LibcRuntime,
     store: &mut S,
     page: u32,
     length: usize,
 ) -> Result<(), AnyError> {
-    let mut buffer = [BLANK; 257];
-    let n = length.min(257);
-    let answer = Answer(store.read(page, &mut buffer[0..n]));
-    let first = buffer[0];
+    let mut buffer = [BLANK; LONGEST];
+    let answer = Answer(store.read(page, &mut buffer[0..length.min(LONGEST)]));
     println!(
         rt,
-        "  read {page} into {n} bytes: {answer}; first byte {first}"
+        "  read {page} into {length} bytes: {answer}; first byte {}",
+        buffer[0]
     )?;
     Ok(())
 }
 
-/// Writes a page full of one byte, and shows the answer.
-pub fn write<S: Store>(
+/// Writes a page of ink, and shows the answer.
+fn write<S: Store>(
     rt: &LibcRuntime,
     store: &mut S,
     page: u32,
     length: usize,
-    byte: u8,
 ) -> Result<(), AnyError> {
-    let bytes = [byte; 257];
-    let n = length.min(257);
-    let answer = Answer(store.write(page, &bytes[0..n]));
-    println!(rt, "  write {page} from {n} bytes of {byte}: {answer}")?;
+    let bytes = [INK; LONGEST];
+    let answer = Answer(store.write(page, &bytes[0..length.min(LONGEST)]));
+    println!(rt, "  write {page} from {length} bytes: {answer}")?;
     Ok(())
 }
 
-/// Shows the number of pages and the tally.
-pub fn state<S: Store>(rt: &LibcRuntime, store: &S) -> Result<(), AnyError> {
-    let pages = store.count();
-    let tally = store.tally();
-    println!(rt, "  {pages} pages, tally {tally}")?;
+/// Makes calls one after another, and shows the number of pages and the tally at the end.
+pub fn calls<S: Store>(
+    rt: &LibcRuntime,
+    title: &str,
+    store: &mut S,
+    calls: &[Call],
+) -> Result<(), AnyError> {
+    println!(rt, "{title}")?;
+    for call in calls {
+        match call.access {
+            Access::Read => read(rt, store, call.page, call.length)?,
+            Access::Write => write(rt, store, call.page, call.length)?,
+        }
+    }
+    println!(rt, "  {} pages, tally {}", store.count(), store.tally())?;
     Ok(())
 }
 
@@ -71,6 +86,17 @@ pub fn state<S: Store>(rt: &LibcRuntime, store: &S) -> Result<(), AnyError> {
 pub fn outcomes(rt: &LibcRuntime, outcomes: &[Result<(), Fault>]) -> Result<(), AnyError> {
     for outcome in outcomes {
         println!(rt, "  outcome: {}", Answer(*outcome))?;
+    }
+    Ok(())
+}
+
+/// Shows the first byte of each call's part of a memory.
+pub fn buffers(rt: &LibcRuntime, calls: &[Call], memory: &[u8]) -> Result<(), AnyError> {
+    let mut start = 0;
+    for call in calls {
+        let first = memory.get(start).copied().unwrap_or(0);
+        println!(rt, "  a buffer begins with {first}")?;
+        start = call.length.wrapping_add(start);
     }
     Ok(())
 }
