@@ -1,7 +1,7 @@
 -- The hint words of a request, as they are written and as they are read.
 use mathlib.Core.Path.{_≡_, refl, sym, ap, subst, _∙_}
 use mathlib.Core.List.{List, [], _∷_, _++_}
-use Prim.Native.Nat.{ℕ, zero, suc, _+_, _*_, _/_, _%_, _^_, _≤_, _<_}
+use Prim.Native.Nat.{ℕ, zero, suc, _+_, _*_, _/_, _^_, _<_}
 use native.Mathlib.Omega.{arith}
 use lib.ListN.{length, getD, take}
 use Rattle.std.specs.declared.result.Result.{Result}
@@ -16,7 +16,7 @@ use Rattle.trace.specs.Encoding.{word}
 use Rattle.trace.specs.Hints.{value-at, values-of}
 use Rattle.trace.specs.Items.{hint-words, then}
 use Rattle.trace.specs.Words.{word-at}
-use Rattle.trace.proofs.Encodings.{Bytes, WordRead, Written, err-ok, plain, word-complete, word-sound}
+use Rattle.trace.proofs.Encodings.{Bytes, WordRead, err-ok, word-complete, word-sound}
 
 -- hint words, one for each value
 abbrev pub hint-bytes : List ℕ → List ℕ

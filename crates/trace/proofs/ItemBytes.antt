@@ -1,29 +1,25 @@
 -- An item that is read is the request that was written.
 use mathlib.Core.Path.{_≡_, refl, sym, ap, subst, _∙_}
-use mathlib.Core.Bool.{Bool, true, false, cond, _||_}
-use mathlib.Core.List.{List, [], _∷_, _++_}
-use mathlib.Core.Logic.{_⊎_, inl, inr, ⊎-elim}
-use Prim.Native.Nat.{ℕ, zero, suc, _+_, _*_, _^_, _≤_, _<_}
+use mathlib.Core.Bool.{true, false, _||_}
+use mathlib.Core.List.{List, _++_}
+use mathlib.Core.Logic.{_⊎_, ⊎-elim}
+use Prim.Native.Nat.{ℕ, _+_, _^_, _≤_, _<_}
 use native.Mathlib.Omega.{arith}
 use lib.Dec.{eqb, leb}
-use lib.ListN.{length, take}
-use Rattle.std.specs.declared.result.Result.{Result}
-use Rattle.std.specs.declared.result.Result.the-variants.{Ok, Err}
-use Rattle.std.specs.shelf.Lists.{All, joined}
-use Rattle.std.proofs.shelf.Lists.{append-assoc, take-at}
+use lib.ListN.{length}
+use Rattle.std.specs.declared.result.Result.the-variants.{Ok}
+use Rattle.std.proofs.shelf.Lists.{append-assoc}
 use Rattle.std.proofs.shelf.Tests.{and-from, and-parts, cases-bool, cond-false, cond-true, eqb-true, le-leb, leb-true, or-cases, both-ways}
-use Rattle.values.specs.HintSets.{Hints}
 use Rattle.trace.specs.declared.item.Call.{Call}
 use Rattle.trace.specs.declared.item.Call.the-variants.{Read, Write}
 use Rattle.trace.specs.declared.word.Expected.the-variants.{Item, Fill}
 use Rattle.trace.specs.declared.word.Word.{Word}
 use Rattle.trace.specs.Encoding.{Asked, Filled, LawfulRequest, fill-bytes, kind-of, request-bytes, word}
-use Rattle.trace.specs.Hints.{values-of}
-use Rattle.trace.specs.Items.{Request, Step, asked, called, filled, hint-words, item-at, then}
+use Rattle.trace.specs.Items.{Step, asked, called, filled, hint-words, item-at, then}
 use Rattle.trace.specs.Whole.{meant}
 use Rattle.trace.specs.Words.{kind-fits, word-at}
 use Rattle.trace.proofs.Encodings.{Bytes, WordRead, Written, plain, word-complete, word-sound}
-use Rattle.trace.proofs.HintBytes.{HintsWritten, hint-bytes, hints-complete, hints-sound, length-hint-bytes, then-ok, values-in-front}
+use Rattle.trace.proofs.HintBytes.{HintsWritten, hint-bytes, hints-complete, hints-sound, then-ok, values-in-front}
 
 pub record ItemWritten (bs : List ℕ) (s : Step) : Type 0 where
   pub lawful : LawfulRequest (meant (s .item))

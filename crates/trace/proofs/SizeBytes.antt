@@ -2,7 +2,7 @@
 use mathlib.Core.Path.{_≡_, refl, sym, ap, subst, _∙_}
 use mathlib.Core.Bool.{true}
 use mathlib.Core.List.{List, _++_}
-use Prim.Native.Nat.{ℕ, _+_, _^_, _≤_, _<_}
+use Prim.Native.Nat.{ℕ, _+_, _^_, _<_}
 use native.Mathlib.Omega.{arith}
 use lib.Dec.{eqb}
 use Rattle.std.specs.declared.result.Result.{Result}
@@ -11,14 +11,14 @@ use Rattle.std.proofs.shelf.Tests.{and-from, and-parts, eq-eqb, eqb-true}
 use Rattle.std.specs.Results.{mapped}
 use Rattle.values.specs.declared.size_numbers.SizeNumbers.{SizeNumbers}
 use Rattle.values.specs.Sizes.{sizes-from}
-use Rattle.values.proofs.Limits.{Within, within-limits}
+use Rattle.values.proofs.Limits.{within-limits}
 use Rattle.trace.specs.declared.word.Expected.the-variants.{Size}
 use Rattle.trace.specs.declared.word.Word.{Word}
 use Rattle.trace.specs.Encoding.{word}
 use Rattle.trace.specs.Items.{then}
 use Rattle.trace.specs.Sizes.{Header, in-limits, size-words, sizes-at}
-use Rattle.trace.specs.Words.{bits-fit, word-at}
-use Rattle.trace.proofs.Encodings.{Bytes, WordRead, err-ok, plain, word-complete, word-sound}
+use Rattle.trace.specs.Words.{word-at}
+use Rattle.trace.proofs.Encodings.{Bytes, err-ok, plain, word-complete, word-sound}
 use Rattle.trace.proofs.HintBytes.{then-ok}
 
 -- the bytes of the size words, from the last, the one before it, and so on

@@ -1,7 +1,7 @@
 -- A trace that is read in part: what the loop over its items keeps.
-use mathlib.Core.Path.{_≡_, refl, sym, ap, subst, _∙_}
+use mathlib.Core.Path.{_≡_, refl, ap, _∙_}
 use mathlib.Core.List.{List, [], _∷_, _++_}
-use Prim.Native.Nat.{ℕ, _+_, _*_, _≤_, _<_}
+use Prim.Native.Nat.{ℕ, _+_, _*_, _≤_}
 use native.Mathlib.Omega.{arith}
 use lib.ListN.{length}
 use Rattle.std.specs.declared.option.Option.the-variants.{Some, None}
@@ -13,7 +13,7 @@ use Rattle.trace.specs.Items.{Request}
 use Rattle.trace.specs.Reading.{Left, after-item, after-sizes, item-read, sizes-read}
 use Rattle.trace.specs.Whole.{AllRead, Reads, first, meant, stop}
 use Rattle.trace.proofs.Encodings.{Bytes}
-use Rattle.trace.proofs.WholeTraces.{Passed, item-passed, reads-push, sizes-passed}
+use Rattle.trace.proofs.WholeTraces.{item-passed, reads-push, sizes-passed}
 
 pub record SoFar (bs : List ℕ) (m : Left) (n : ℕ) : Type 0 where
   pub sizes : SizeNumbers

@@ -2,8 +2,8 @@
 use mathlib.Core.Path.{_≡_, refl, sym, ap, subst, _∙_}
 use mathlib.Core.Bool.{Bool, true, false, cond}
 use mathlib.Core.List.{List, [], _∷_, _++_}
-use mathlib.Core.Logic.{_⊎_, inl, inr}
-use Prim.Native.Nat.{ℕ, _+_, _^_, _≤_, _<_}
+use mathlib.Core.Logic.{inl, inr}
+use Prim.Native.Nat.{ℕ, _+_, _≤_}
 use native.Mathlib.Omega.{arith}
 use lib.Dec.{eqb}
 use lib.ListN.{length}
@@ -17,14 +17,14 @@ use Rattle.std.specs.shelf.Lists.{All, joined}
 use Rattle.std.proofs.shelf.Lists.{append-assoc, append-nil, nil-from-length}
 use Rattle.std.proofs.shelf.Tests.{cond-false, eqb-true, ne-eqb}
 use Rattle.values.specs.declared.size_numbers.SizeNumbers.{SizeNumbers}
-use Rattle.trace.specs.Encoding.{Asked, LawfulRequest, request-bytes, trace-bytes}
+use Rattle.trace.specs.Encoding.{Asked, LawfulRequest, request-bytes}
 use Rattle.trace.specs.Items.{Request, Step, item-at, next-at, some}
 use Rattle.trace.specs.Reading.{Left, after-item, after-sizes, item-read, passed-item, passed-sizes, sizes-read}
 use Rattle.trace.specs.Sizes.{Header, sizes-at}
-use Rattle.trace.specs.Whole.{AllRead, Encodes, FaultAfter, FirstFault, Reads, first, meant, more, stop}
+use Rattle.trace.specs.Whole.{AllRead, Encodes, FirstFault, Reads, first, meant, more, stop}
 use Rattle.trace.proofs.Encodings.{Bytes, err-ok}
-use Rattle.trace.proofs.ItemBytes.{ItemRead, ItemWritten, item-complete, item-sound}
-use Rattle.trace.proofs.SizeBytes.{SizesWritten, size-bytes, sizes-complete, sizes-sound}
+use Rattle.trace.proofs.ItemBytes.{item-complete, item-sound}
+use Rattle.trace.proofs.SizeBytes.{size-bytes, sizes-complete, sizes-sound}
 
 -- what a reader does, by the test for the end and the item that is there
 abbrev answer : Bool → Result Step (ℕ × ℕ) → Result (Option Step) (ℕ × ℕ)

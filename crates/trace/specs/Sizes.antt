@@ -9,7 +9,7 @@ use Prim.Native.Nat.{ℕ, _+_}
 use mathlib.Core.List.{List}
 use denote.Ref.{now}
 use Rattle.std.specs.declared.result.Result.{Result}
-use Rattle.std.specs.declared.result.Result.the-variants.{Ok, Err}
+use Rattle.std.specs.declared.result.Result.the-variants.{Ok}
 use Rattle.std.specs.Results.{mapped}
 use Rattle.values.specs.declared.size_numbers.SizeNumbers.{SizeNumbers}
 use Rattle.values.specs.Sizes.{sizes-from}

@@ -7,13 +7,13 @@ use lib.ListN.{getD, length}
 use mir.Syntax.{w8}
 use mir.Val.{Fits}
 use Rattle.std.specs.declared.option.Option.the-variants.{Some, None}
-use Rattle.std.specs.declared.result.Result.the-variants.{Ok, Err}
+use Rattle.std.specs.declared.result.Result.the-variants.{Ok}
 use Rattle.std.specs.Options.{mapped as mapSome}
 use Rattle.std.proofs.shelf.Elements.{all-from-getD}
 use Rattle.std.proofs.shelf.Results.{err-from-errBy}
 use Rattle.trace.specs.Items.{request}
 use Rattle.trace.specs.Reading.{after-sizes, item-read, left, sizes-read}
-use Rattle.trace.specs.Whole.{FirstFault, first}
+use Rattle.trace.specs.Whole.{FirstFault}
 use Rattle.trace.specs.Words.{refused}
 use Rattle.trace.proofs.Encodings.{Bytes}
 use Rattle.trace.proofs.SoFar.{SoFar, item-shortens, so-far-all, so-far-more, so-far-none}
