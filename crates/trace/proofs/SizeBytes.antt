@@ -90,6 +90,14 @@ record From (h : Header) (bs written : List ℕ) : Type 0 where
   bytes : bs ≡ written
   others : Bytes (h .rest)
 
+-- one more size word in front
+from-one-more : (h : Header) (order v : ℕ) {Y : Type 0} {k : Word × List ℕ → Result Y (ℕ × ℕ)} {y : Y} {bs written : List ℕ}
+    (r : SizeRead order bs k y) → v ≡ r .word-read .value → From h (r .rest) written → From h bs (word 0 order 0 v ++ written)
+from-one-more h order v r e i = record {
+  bytes = r .bytes ∙ ap (λ x. word 0 order 0 x ++ r .rest) (sym e) ∙ ap (λ x. word 0 order 0 v ++ x) (i .bytes);
+  others = i .others;
+}
+
 module _ (place : ℕ) (h : Header) where
   four-sound : (c q k j : ℕ) (bs : List ℕ) → Bytes bs → then (word-at (Size 4) bs (place + 4)) (five place c q k j) ≡ Ok h →
       From h bs (from-window (h .sizes) (h .rest)) × (h .sizes .«cache_places» ≡ c) × (h .sizes .«queue_places» ≡ q) × (h .sizes .«hint_rows» ≡ k) × (h .sizes .«page_rows» ≡ j)
@@ -116,7 +124,7 @@ module _ (place : ℕ) (h : Header) where
   three-sound c q k bs b e =
       let r = size-read 3 bs (place + 3) (four place c q k) h b e in
       let i = four-sound c q k (r .word-read .value) (r .rest) (r .others) (r .next) in (
-        record { bytes = r .bytes ∙ ap (λ v. word 0 3 0 v ++ r .rest) (sym (i .4)) ∙ ap (λ y. word 0 3 0 (h .sizes .«page_rows») ++ y) (i .0 .bytes); others = i .0 .others },
+        from-one-more h 3 (h .sizes .«page_rows») r (i .4) (i .0),
         i .1,
         i .2,
         i .3,
@@ -127,7 +135,7 @@ module _ (place : ℕ) (h : Header) where
   two-sound c q bs b e =
       let r = size-read 2 bs (place + 2) (three place c q) h b e in
       let i = three-sound c q (r .word-read .value) (r .rest) (r .others) (r .next) in (
-        record { bytes = r .bytes ∙ ap (λ v. word 0 2 0 v ++ r .rest) (sym (i .3)) ∙ ap (λ y. word 0 2 0 (h .sizes .«hint_rows») ++ y) (i .0 .bytes); others = i .0 .others },
+        from-one-more h 2 (h .sizes .«hint_rows») r (i .3) (i .0),
         i .1,
         i .2,
       )
@@ -137,7 +145,7 @@ module _ (place : ℕ) (h : Header) where
   one-sound c bs b e =
       let r = size-read 1 bs (place + 1) (two place c) h b e in
       let i = two-sound c (r .word-read .value) (r .rest) (r .others) (r .next) in (
-        record { bytes = r .bytes ∙ ap (λ v. word 0 1 0 v ++ r .rest) (sym (i .2)) ∙ ap (λ y. word 0 1 0 (h .sizes .«queue_places») ++ y) (i .0 .bytes); others = i .0 .others },
+        from-one-more h 1 (h .sizes .«queue_places») r (i .2) (i .0),
         i .1,
       )
 
@@ -145,7 +153,7 @@ module _ (place : ℕ) (h : Header) where
   size-words-sound bs b e =
       let r = size-read 0 bs place (one place) h b e in
       let i = one-sound (r .word-read .value) (r .rest) (r .others) (r .next) in
-      record { bytes = r .bytes ∙ ap (λ v. word 0 0 0 v ++ r .rest) (sym (i .1)) ∙ ap (λ y. word 0 0 0 (h .sizes .«cache_places») ++ y) (i .0 .bytes); others = i .0 .others }
+      from-one-more h 0 (h .sizes .«cache_places») r (i .1) (i .0)
 
 pub record SizesWritten (bs : List ℕ) (h : Header) : Type 0 where
   pub lawful : sizes-from (h .sizes) ≡ Ok (h .sizes)
