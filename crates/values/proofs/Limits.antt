@@ -48,3 +48,29 @@ within-limits n m e =
       window = below 4 (n .window) 2048 (f .0);
       kept = e ∙ sym (f .1);
     }
+
+above : (at size most : ℕ) → limited at size most ≡ Ok tt → 1 ≤ size
+above at size most e =
+    leb-true 1 size (and-parts (leb 1 size) (leb size most) (passed (leb 1 size && leb size most) (1, at) e) .0)
+
+pub record Positive (n : SizeNumbers) : Type 0 where
+  pub cache : 1 ≤ n .«cache_places»
+  pub queue : 1 ≤ n .«queue_places»
+  pub hints : 1 ≤ n .«hint_rows»
+  pub pages : 1 ≤ n .«page_rows»
+  pub window : 1 ≤ n .window
+
+pub positive : (n m : SizeNumbers) → sizes-from n ≡ Ok m → Positive n
+positive n m e =
+    let a = both (limited 0 (n .«cache_places») 1024) _ m e in
+    let b = both (limited 1 (n .«queue_places») 8192) _ m (a .1) in
+    let c = both (limited 2 (n .«hint_rows») 256) _ m (b .1) in
+    let d = both (limited 3 (n .«page_rows») 256) _ m (c .1) in
+    let f = both (limited 4 (n .window) 2048) _ m (d .1) in
+    record {
+      cache = above 0 (n .«cache_places») 1024 (a .0);
+      queue = above 1 (n .«queue_places») 8192 (b .0);
+      hints = above 2 (n .«hint_rows») 256 (c .0);
+      pages = above 3 (n .«page_rows») 256 (d .0);
+      window = above 4 (n .window) 2048 (f .0);
+    }

@@ -1,0 +1,17 @@
+pub mod Refusals
+pub mod State
+pub mod Pages
+pub mod Priorities
+pub mod Choices
+pub mod Placing
+pub mod Learning
+pub mod Requests
+pub mod Looks
+pub mod Histories
+pub mod Accepted
+pub mod Laws
+pub mod Bounds
+pub mod Victims
+pub mod Examples
+pub mod Sample
+pub mod Cases
