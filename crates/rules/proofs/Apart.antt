@@ -9,10 +9,11 @@ use lib.ListN.{length, getD}
 use Rattle.std.specs.declared.option.Option.the-variants.{Some, None}
 use Rattle.std.specs.declared.result.Result.the-variants.{Ok, Err}
 use Rattle.std.proofs.shelf.Tests.{eqb-true}
+use Rattle.store.specs.Laws.{Throughout}
 use Rattle.rules.specs.State.{CachedPage, Places}
 use Rattle.rules.specs.Pages.{cached-page}
 use Rattle.rules.specs.Histories.{Event, asked, peeked, looked}
-use Rattle.rules.specs.Accepted.{Accepted, Throughout, accepted, latest-number}
+use Rattle.rules.specs.Accepted.{Accepted, accepted, latest-number}
 use Rattle.rules.specs.Laws.{Numbers}
 use Rattle.rules.proofs.Singles.{Once, this, that, absent-at, set-once}
 use Rattle.rules.proofs.Where.{Where, never, gone, cached, queued, some-none}

@@ -8,6 +8,7 @@ use lib.ListN.{length}
 use Rattle.std.specs.declared.option.Option.{Option}
 use Rattle.std.specs.declared.option.Option.the-variants.{Some, None}
 use Rattle.store.specs.Meaning.{Meaning}
+use Rattle.store.specs.Laws.{Throughout}
 use Rattle.rules.specs.declared.request.Request.{Request}
 use Rattle.rules.specs.Refusals.{Refused}
 use Rattle.rules.specs.State.{Places, State, opened}
@@ -15,7 +16,7 @@ use Rattle.rules.specs.Pages.{cached-page, entry-page, how-many}
 use Rattle.rules.specs.Placing.{known}
 use Rattle.rules.specs.Requests.{after, answer, choice, distance-from, newcomer, refusal}
 use Rattle.rules.specs.Histories.{Event, request-event}
-use Rattle.rules.specs.Accepted.{Throughout, accepted, latest-number}
+use Rattle.rules.specs.Accepted.{accepted, latest-number}
 use Rattle.rules.specs.Laws.{Distance, Every, OnePlace, Reports, Reports-distance}
 use Rattle.rules.proofs.Along.{Keeps, along}
 use Rattle.rules.proofs.Chosen.{chosen}

@@ -16,7 +16,7 @@ use Rattle.values.specs.declared.hint_numbers.HintNumbers.{HintNumbers}
 use Rattle.store.specs.declared.script.Access.{Access}
 use Rattle.store.specs.declared.script.Access.the-variants.{Read, Write}
 use Rattle.store.specs.Meaning.{Meaning, put, tallied}
-use Rattle.store.specs.Laws.{latest}
+use Rattle.store.specs.Laws.{latest, Throughout}
 use Rattle.rules.specs.declared.request.Request.{Request}
 use Rattle.rules.specs.Refusals.{Refused, plain}
 use Rattle.rules.specs.State.{CachedPage, Places, State, opened}
@@ -26,7 +26,7 @@ use Rattle.rules.specs.Placing.{cache-after}
 use Rattle.rules.specs.Requests.{after, cached-or, choice, newcomer, refusal}
 use Rattle.rules.specs.Looks.{peek-answer, peek-buffer}
 use Rattle.rules.specs.Histories.{Event, request-event}
-use Rattle.rules.specs.Accepted.{Throughout, accepted, accesses, latest-number}
+use Rattle.rules.specs.Accepted.{accepted, accesses, latest-number}
 use Rattle.rules.specs.Laws.{Every, Freshness, Gets-latest}
 use Rattle.rules.proofs.Along.{Keeps, along}
 use Rattle.rules.proofs.Chosen.{Chosen, as-hit, as-free, as-evict, as-pass, chosen}

@@ -12,12 +12,13 @@ use Rattle.std.specs.declared.result.Result.the-variants.{Ok, Err}
 use Rattle.values.specs.declared.size_numbers.SizeNumbers.{SizeNumbers}
 use Rattle.store.specs.declared.script.Access.the-variants.{Write}
 use Rattle.store.specs.Meaning.{Meaning}
+use Rattle.store.specs.Laws.{Throughout}
 use Rattle.rules.specs.declared.request.Request.{Request}
 use Rattle.rules.specs.Refusals.{Refused}
 use Rattle.rules.specs.State.{State, opened}
 use Rattle.rules.specs.Requests.{after, answer, refusal}
 use Rattle.rules.specs.Histories.{Event, request-event}
-use Rattle.rules.specs.Accepted.{Throughout, accepted}
+use Rattle.rules.specs.Accepted.{accepted}
 use Rattle.rules.specs.Laws.{Every, Numbering, Numbers}
 use Rattle.rules.proofs.Along.{Keeps, along, granted}
 

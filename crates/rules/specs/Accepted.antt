@@ -7,7 +7,6 @@
 --   accesses        the reads and writes, as those of a store
 --   hits            how many accepted reads were decided hit
 --   rise            how far a store's tally rose
---   Throughout      each event obeys a law after those before it
 use mathlib.Core.Bool.{cond}
 use mathlib.Core.List.{List, [], _∷_}
 use Prim.Native.Nat.{ℕ, _+_, _-_, _%_, _^_}
@@ -84,8 +83,3 @@ hits (x ∷ xs) = hit-of (x .request .access) (x .answer .decision) + hits xs
 -- from one meaning to another, modulo 2^32
 abbrev pub rise : Meaning → Meaning → ℕ
 rise from to = (to .tally + (2 ^ 32 - from .tally)) % 2 ^ 32
-
--- P of the events before it, and of the event
-abbrev pub Throughout : (List Event → Event → Type 0) → List Event → Type 0
-Throughout P [] = Unit
-Throughout P (e ∷ h) = P h e × Throughout P h

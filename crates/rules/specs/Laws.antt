@@ -24,12 +24,12 @@ use Rattle.keys.specs.Meanings.{hint-meaning, page-meaning}
 use Rattle.counting.specs.Laws.{Lawful as LawfulRows}
 use Rattle.store.specs.declared.script.Access.the-variants.{Read, Write}
 use Rattle.store.specs.Meaning.{Lawful, Meaning}
-use Rattle.store.specs.Laws.{Gets-latest as ReadsLatest, accepted-reads, latest}
+use Rattle.store.specs.Laws.{accepted-reads, Gets-latest as ReadsLatest, latest, Throughout}
 use Rattle.rules.specs.declared.answer.Answer.{Answer}
 use Rattle.rules.specs.State.{State, opened}
 use Rattle.rules.specs.Pages.{cached-page, entry-page, how-many}
 use Rattle.rules.specs.Histories.{Event, asked, peeked, looked, Reaches}
-use Rattle.rules.specs.Accepted.{Throughout, access-event, accepted, accesses, hits, latest-number, only-accepted, open-window, rise}
+use Rattle.rules.specs.Accepted.{access-event, accepted, accesses, hits, latest-number, only-accepted, open-window, rise}
 
 -- a law speaks of the sizes, the first store, the history, and the server and the store that it leads to
 abbrev pub Every : (SizeNumbers → Meaning → List Event → State → Meaning → Type 0) → Type 0

@@ -51,7 +51,7 @@ accepted-reads [] = 0
 accepted-reads (e ∷ h) = cond (has-read e) (accepted-reads h + 1) (accepted-reads h)
 
 -- each call obeys P after those before it
-abbrev pub Throughout : {F : Type 0} → (List (Event F) → Event F → Type 0) → List (Event F) → Type 0
+abbrev pub Throughout : {E : Type 0} → (List E → E → Type 0) → List E → Type 0
 Throughout P [] = Unit
 Throughout P (e ∷ h) = P h e × Throughout P h
 
