@@ -1,0 +1,4 @@
+pub mod Changes
+pub mod Choosing
+pub mod Ranks
+pub mod View
