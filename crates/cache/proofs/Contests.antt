@@ -6,7 +6,6 @@ use Prim.Native.Nat.{ℕ}
 use native.Mathlib.Omega.{arith}
 use lib.Dec.{ltb}
 use lib.ListN.{length, getD}
-use Rattle.std.specs.declared.option.Option.{Option}
 use Rattle.std.specs.declared.option.Option.the-variants.{Some, None}
 use Rattle.std.proofs.shelf.Lists.{getD-default}
 use Rattle.values.specs.declared.hint_numbers.HintNumbers.{HintNumbers}
@@ -14,8 +13,7 @@ use Rattle.order.specs.Least.{least-in}
 use Rattle.order.proofs.Leasts.{least-lt}
 use Rattle.counting.specs.declared.row.Row.{Row}
 use Rattle.priority.specs.Priorities.{less}
-use Rattle.rules.specs.declared.choice.Choice.{Choice}
-use Rattle.rules.specs.declared.choice.Choice.the-variants.{Hit, Free, Evict, Pass}
+use Rattle.rules.specs.declared.choice.Choice.the-variants.{Hit, Evict, Pass}
 use Rattle.rules.specs.declared.entry.Entry.{Entry}
 use Rattle.rules.specs.Pages.{entry-page, seek}
 use Rattle.rules.specs.Priorities.{gives-way, priority-of}

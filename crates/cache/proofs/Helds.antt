@@ -1,11 +1,10 @@
 -- The pages of the used places.
-use mathlib.Core.Bool.{Bool, true, false, cond, _&&_}
+use mathlib.Core.Bool.{true, cond, _&&_}
 use mathlib.Core.List.{List, [], _∷_, _++_}
 use mathlib.Core.Path.{_≡_, refl, sym, ap, ap₂, _∙_}
-use Prim.Native.Nat.{ℕ, zero, suc, _+_, _*_, _/_, _<_, _≤_, min}
+use Prim.Native.Nat.{ℕ, zero, suc, _+_, _/_, _<_, min}
 use native.Mathlib.Omega.{arith}
-use lib.Dec.{eqb, ltb}
-use lib.ListN.{length, take, getD, set, length-take}
+use lib.ListN.{length, take, getD, set}
 use lib.Seq.{length-take-le}
 use Rattle.std.specs.declared.option.Option.the-variants.{Some}
 use Rattle.std.specs.shelf.Maps.{nth}
@@ -13,7 +12,7 @@ use Rattle.std.proofs.shelf.Lists.{getD-take, length-set, take-more-set}
 use Rattle.std.proofs.shelf.Tests.{eq-eqb, lt-ltb}
 use Rattle.store.specs.Makes.{pageOf, put-page}
 use Rattle.rules.specs.declared.entry.Entry.{Entry}
-use Rattle.rules.specs.State.{CachedPage, entries}
+use Rattle.rules.specs.State.{entries}
 use Rattle.rules.specs.Requests.{cached-or}
 use Rattle.cache.specs.View.{cache-of, held-of, pages-of, room-of}
 use Rattle.cache.specs.Changes.{added, cached-as, has-room, put-at, shown, takes, touched}

@@ -1,12 +1,11 @@
 -- For the server above: what the cache's calls find and leave, in the words of the rules.
 use mathlib.Core.Bool.{Bool, true, false, cond, _&&_}
 use mathlib.Core.List.{List, [], _∷_, _++_}
-use mathlib.Core.Path.{_≡_, refl, sym, ap, ap₂, subst, _∙_}
+use mathlib.Core.Path.{_≡_, refl, sym, ap, ap₂, _∙_}
 use Prim.Native.Nat.{ℕ, suc, _<_, _≤_}
 use native.Mathlib.Omega.{arith}
 use lib.Dec.{eqb, ltb}
 use lib.ListN.{length, set}
-use Rattle.std.specs.declared.option.Option.{Option}
 use Rattle.std.specs.declared.option.Option.the-variants.{Some, None}
 use Rattle.std.specs.shelf.Maps.{nth}
 use Rattle.std.proofs.shelf.Maps.{nth-past}
@@ -15,13 +14,13 @@ use Rattle.rules.specs.declared.choice.Choice.{Choice}
 use Rattle.rules.specs.declared.choice.Choice.the-variants.{Hit, Free, Evict, Pass}
 use Rattle.rules.specs.declared.entry.Entry.{Entry}
 use Rattle.rules.specs.State.{CachedPage, entries}
-use Rattle.rules.specs.Pages.{cached-page, entry-page, find, in-cache, seek}
+use Rattle.rules.specs.Pages.{cached-page, find, in-cache, seek}
 use Rattle.rules.specs.Placing.{cache-after}
 use Rattle.rules.specs.Requests.{cached-or}
 use Rattle.rules.proofs.Chosen.{Chosen, as-hit, as-free, as-evict, as-pass}
 use Rattle.rules.proofs.Entries.{length-entries, seek-entries}
 use Rattle.rules.proofs.Singles.{unfound}
-use Rattle.cache.specs.Changes.{added, cached-as, put-at, settled, shown, sought, takes, touched}
+use Rattle.cache.specs.Changes.{cached-as, put-at, settled, shown, sought, touched}
 use Rattle.cache.proofs.Contests.{some-is, some-none}
 
 -- ---- what is found is what stands at the place

@@ -9,7 +9,6 @@
 use mathlib.Core.Bool.{Bool, true, false, _&&_}
 use mathlib.Core.List.{List}
 use mathlib.Core.Path.{_≡_, refl}
-use Prim.Native.Nat.{ℕ}
 use lib.Dec.{leb, lit≤, ltb}
 use Rattle.std.proofs.shelf.Tests.{and-parts, leb-true}
 use Rattle.values.specs.declared.hint_numbers.HintNumbers.{HintNumbers}

@@ -2,13 +2,13 @@ ghost use denote.Ref.{name};
 ghost use mathlib.Core.Path.{_≡_};
 ghost use mathlib.Core.List.{[]};
 ghost use Prim.Native.Nat.{_<_};
-ghost use lib.ListN.{length};
+ghost use lib.ListN.{length, take};
 ghost use Rattle.std.specs.shelf.Maps.{nth};
-ghost use Rattle.store.specs.Makes.{pageOf};
 ghost use Rattle.rules.specs.State.{entries as entries-of};
 ghost use Rattle.cache.specs.View.{cached, held, places};
 ghost use Rattle.cache.specs.Changes.{shown, sought, takes};
 use crate::page::page_out;
+use crate::search::entry_at;
 use crate::search::find_page;
 use rules::entry::Entry;
 use store::page::PAGE_BYTES;
@@ -26,9 +26,9 @@ pub struct Cache<'a> {
 }
 
 impl<'a> Cache<'a> {
-    /// An empty cache; what was lent stays as it is.
-    pub fn new(rows: &'a mut [Entry], bytes: &'a mut [u8]) -> Cache<'a>
-        ensures empty { λ r. ⌜ cached r ≡ [] ⌝ }
+    /// Takes over what is lent, with no place used.
+    fn over(rows: &'a mut [Entry], bytes: &'a mut [u8]) -> Cache<'a>
+        ensures unused { λ r. ⌜ r .used ≡ 0 ⌝ }
         ensures memory { λ r. ⌜ now (r .rows) ≡ now (rows .entry) ⌝ ∗ ⌜ now (r .bytes) ≡ now (bytes .entry) ⌝ }
         ensures lent { λ r. ⌜ name (r .rows) ≡ name (rows .entry) ⌝ ∗ ⌜ name (r .bytes) ≡ name (bytes .entry) ⌝ }
     {
@@ -37,6 +37,15 @@ impl<'a> Cache<'a> {
             bytes,
             used: 0,
         }
+    }
+
+    /// An empty cache; what was lent stays as it is.
+    pub fn new(rows: &'a mut [Entry], bytes: &'a mut [u8]) -> Cache<'a>
+        ensures empty { λ r. ⌜ cached r ≡ [] ⌝ }
+        ensures memory { λ r. ⌜ now (r .rows) ≡ now (rows .entry) ⌝ ∗ ⌜ now (r .bytes) ≡ now (bytes .entry) ⌝ }
+        ensures lent { λ r. ⌜ name (r .rows) ≡ name (rows .entry) ⌝ ∗ ⌜ name (r .bytes) ≡ name (bytes .entry) ⌝ }
+    {
+        Cache::over(rows, bytes)
     }
 
     /// How many places there are, used or not: a place has a row and a whole page.
@@ -61,11 +70,18 @@ impl<'a> Cache<'a> {
         self.many_used()
     }
 
+    /// The rows of the used places.
+    fn used_rows(&self) -> &[Entry]
+        ensures { λ r. ⌜ now r ≡ take (held (now (self .entry))) (now (now (self .entry) .rows)) ⌝ }
+    {
+        &self.rows[0..self.many_used()]
+    }
+
     /// The entries of the cached pages, place by place.
     pub fn entries(&self) -> &[Entry]
         ensures { λ r. ⌜ now r ≡ entries-of (cached (now (self .entry))) ⌝ }
     {
-        &self.rows[0..self.len()]
+        self.used_rows()
     }
 
     /// The place of a page, if it is cached.
@@ -79,11 +95,7 @@ impl<'a> Cache<'a> {
     pub fn entry(&self, place: usize) -> Option<Entry>
         ensures { λ r. ⌜ r ≡ nth (entries-of (cached (now (self .entry)))) place ⌝ }
     {
-        let entries = self.entries();
-        if place < entries.len() {
-            return Some(entries[place]);
-        }
-        None
+        entry_at(self.entries(), place)
     }
 
     /// Copies the page of a used place out.

@@ -1,6 +1,5 @@
 ghost use denote.Ref.{now};
 ghost use mathlib.Core.List.{map};
-ghost use mathlib.Core.Path.{_≡_};
 ghost use Rattle.cache.specs.Ranks.{lower-rank, ranked-by};
 use crate::priorities::priority_of;
 use crate::rank::Rank;

@@ -1,4 +1,4 @@
-use mathlib.Core.Path.{_≡_, sym, ap, _∙_}
+use mathlib.Core.Path.{_∙_}
 use Rattle.cache.proofs.Ranks.{least-rank, least-within}
 use Rattle.cache.proofs.choosing.victim_among.Needs as need
 

@@ -1,6 +1,13 @@
-use mathlib.Core.Path.{refl}
+use mathlib.Core.Path.{ap, _∙_}
+use Rattle.cache.specs.View.{pages-of}
 use Rattle.cache.proofs.Helds.{pages-none}
 use Rattle.cache.proofs.cache.Cache.new.Needs as need
 
 pub returns : need.returns
-returns c = record { empty = pages-none (c .args .rows .now) (c .args .bytes .now); memory = (refl, refl); lent = (refl, refl) }
+returns c =
+    let r = c .over .result in
+    record {
+      empty = ap (λ u. pages-of u (r .rows .now) (r .bytes .now)) (c .over .ensures .unused) ∙ pages-none (r .rows .now) (r .bytes .now);
+      memory = c .over .ensures .memory;
+      lent = c .over .ensures .lent;
+    }
