@@ -1,4 +1,6 @@
 //! The cache: pages in lent rows and lent memory, and which of them gives way.
+#![tactic(auto)]
+
 pub mod cache;
 pub mod choosing;
 mod page;

@@ -1,4 +1,6 @@
 //! Keys: what the counting table counts.
+#![tactic(auto)]
+
 ghost use Rattle.std.specs.Prelude.{◌≡◌, ℕ, List, Decides};
 
 pub mod hints;

@@ -1,4 +1,6 @@
 //! The worked cases of a queue, run.
+#![tactic(auto)]
+
 use queue::enter_all::enter_all;
 use queue::ring::Queue;
 

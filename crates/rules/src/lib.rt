@@ -1,5 +1,7 @@
 //! The rules of a request, and the laws that hold of every history of a server that keeps them.
 //! The rules and the statements are in `specs/`; here are the plain types that they speak of.
+#![tactic(auto)]
+
 pub mod answer;
 pub mod cases;
 pub mod choice;

@@ -1,4 +1,5 @@
 //! Stores of pages: one interface with an exact meaning, three makes of it, and the law over lists of calls.
+#![tactic(auto)]
 
 pub mod fault;
 pub mod mark;

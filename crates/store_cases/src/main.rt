@@ -1,4 +1,5 @@
 //! What stores answer at the edges: a line for each call.
+#![tactic(auto)]
 
 use crate::buried::Buried;
 use std::alloc::Global;

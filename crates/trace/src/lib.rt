@@ -1,4 +1,6 @@
 //! Traces: bytes in, sizes and items out, faults by word place.
+#![tactic(auto)]
+
 pub mod fault;
 pub mod item;
 pub mod reader;

@@ -1,5 +1,7 @@
 //! Lists the trace at standard input: a line for each size and item, how it ends, and what its
 //! last window counts.
+#![tactic(auto)]
+
 ghost use Rattle.trace.specs.Items.{Hinted, request};
 
 use crate::window::Window;
