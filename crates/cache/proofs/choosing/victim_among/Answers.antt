@@ -5,5 +5,5 @@ use Rattle.cache.proofs.choosing.victim_among.Goals as goal
 pub returns : goal.returns
 returns c =
     let es = c.args.entries.now in
-    let e = c.least-place.ensures.value ∙ least_rank c.args.closed.now es in
+    let e = c.least_place.ensures.value ∙ least_rank c.args.closed.now es in
     record { value = e; within = least_within _ es _ e }

@@ -4,4 +4,4 @@ use Rattle.cache.proofs.priorities.priority_of.Goals as goal
 
 pub returns : goal.returns
 unfolding priority_of
-returns c = c.priority-by.ensures ∙ ap priority_by c.row-of.ensures
+returns c = c.priority_by.ensures ∙ ap priority_by c.row_of.ensures

@@ -18,10 +18,10 @@ loop-c-preserved g c =
     let i = c.loop-c.c-index in
     let x = c.c-item.result in
     let v = c.loop-c.invariant in (
-      c.count-one.ensures.state ∙ ap (λ t. after_count m t x.key x.number) v.0
+      c.count_one.ensures.state ∙ ap (λ t. after_count m t x.key x.number) v.0
           ∙ ap (λ y. after_count m (after_all m all (take i cs)) y.key y.number) c.c-item.is
           ∙ sym (fold_more (λ t y. after_count m t y.key y.number) (emptied all) cs i x c.loop-c-test.true),
-      c.count-one.ensures.lent ∙ v.1,
+      c.count_one.ensures.lent ∙ v.1,
     )
 
 pub returns : goal.returns

@@ -10,8 +10,8 @@ returns c =
     let b = c.args.b in
     record {
       decides = (
-        (λ t. ap says (hint_injective (numbers_of a) (numbers_of b) (c.same-keys.ensures.0 t))),
-        λ e. c.same-keys.ensures.1 (ap hint_meaning (same_numbers a b e)),
+        (λ t. ap says (hint_injective (numbers_of a) (numbers_of b) (c.same_keys.ensures.0 t))),
+        λ e. c.same_keys.ensures.1 (ap hint_meaning (same_numbers a b e)),
       );
       numbers = same_numbers a b;
     }

@@ -16,8 +16,8 @@ loop-item-preserved g c =
     let items = c.args.items.now in
     let i = c.loop-item.item-index in
     let x = c.item-item.result in
-    let e = c.enter-one.ensures in (
-      enter_keeps_latest (places q) (take i items) x (held q) (held c.enter-one.new.queue) (v.0 ∙ ap (λ k. latest k (take i items)) (sym v.1)) e.held e.none
+    let e = c.enter_one.ensures in (
+      enter_keeps_latest (places q) (take i items) x (held q) (held c.enter_one.new.queue) (v.0 ∙ ap (λ k. latest k (take i items)) (sym v.1)) e.held e.none
           ∙ ap (λ k. latest k (take i items ++ x ∷ [])) v.1
           ∙ ap (λ y. latest n (take i items ++ y ∷ [])) c.item-item.is
           ∙ ap (latest n) (sym (take_more items i x c.loop-item-test.true)),

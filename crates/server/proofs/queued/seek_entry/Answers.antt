@@ -13,13 +13,13 @@ returns-in-default c =
     let past = past_end q c.loop-place.place (sym c.at.ensures ∙ c.in-default.is) in
     absurd (omega (arith, past, c.loop-place-test.true, c.len-place-end.ensures.many))
 
-pub returns-then-entry-page : goal.returns-then-entry-page
-returns-then-entry-page c =
+pub returns-then-entry_page : goal.returns-then-entry_page
+returns-then-entry_page c =
     let q = held c.args.queue.now in
     let i = c.loop-place.place in
     let e = c.in-Some.entry in
     let is = ap entry_page (get_d_some q i e e (sym c.at.ensures ∙ c.in-Some.is)) in
-    omega (arith, c.loop-place.invariant, seek_here entry_page c.args.page q i e (omega (arith, c.loop-place-test.true, c.len-place-end.ensures.many)) (sym is ∙ c.if-entry-page.true))
+    omega (arith, c.loop-place.invariant, seek_here entry_page c.args.page q i e (omega (arith, c.loop-place-test.true, c.len-place-end.ensures.many)) (sym is ∙ c.if-entry_page.true))
 
 pub loop-place-preserved : goal.loop-place-preserved
 loop-place-preserved c =
@@ -27,7 +27,7 @@ loop-place-preserved c =
     let i = c.loop-place.place in
     let e = c.in-Some.entry in
     let is = ap entry_page (get_d_some q i e e (sym c.at.ensures ∙ c.in-Some.is)) in
-    omega (arith, c.loop-place.invariant, seek_more entry_page c.args.page q i e (omega (arith, c.loop-place-test.true, c.len-place-end.ensures.many)) (λ h. c.if-entry-page.false (is ∙ h)))
+    omega (arith, c.loop-place.invariant, seek_more entry_page c.args.page q i e (omega (arith, c.loop-place-test.true, c.len-place-end.ensures.many)) (λ h. c.if-entry_page.false (is ∙ h)))
 
 pub returns : goal.returns
 returns c =

@@ -9,7 +9,7 @@ returns c =
     let bs = c.args.bytes.now in
     let h : 4 ≤ length bs = omega (arith, ltb-false) in
     record {
-      value = first_word_is bs c.split.result h (c.split.ensures ∙ ap parts c.from-be-bytes-word.ensures);
+      value = first_word_is bs c.split.result h (c.split.ensures ∙ ap parts c.from_be_bytes-word.ensures);
       narrow = omega (arith, ap (λ w. w.client) c.split.ensures);
       len = omega (arith, h, ap length (take_rest bs 4), length-drop 4 bs);
     }

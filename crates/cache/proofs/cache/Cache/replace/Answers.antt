@@ -7,7 +7,7 @@ pub returns : goal.returns
 returns c =
     let s = c.args.self.now in
     record {
-      after = pages_put s.used s.rows.now s.bytes.now c.args.entry c.args.page.now c.requires.1 _ c.page-in.auto.bytes c.args.place c.requires.0 c.page-in.ensures;
-      len = (length-set s.rows.now c.args.place c.args.entry, c.page-in.auto.bytes);
+      after = pages_put s.used s.rows.now s.bytes.now c.args.entry c.args.page.now c.requires.1 _ c.page_in.auto.bytes c.args.place c.requires.0 c.page_in.ensures;
+      len = (length-set s.rows.now c.args.place c.args.entry, c.page_in.auto.bytes);
       lent = (refl, refl);
     }

@@ -5,4 +5,4 @@ use Rattle.cache.proofs.cache.Cache.show.Goals as goal
 pub returns : goal.returns
 returns c =
     let s = c.args.self.now in
-    c.page-out.ensures ∙ sym (shown_page s.used s.rows.now s.bytes.now c.args.place c.args.buffer.now c.requires.0 c.requires.1)
+    c.page_out.ensures ∙ sym (shown_page s.used s.rows.now s.bytes.now c.args.place c.args.buffer.now c.requires.0 c.requires.1)

@@ -15,5 +15,5 @@ pub returns : goal.returns
 returns c = λ d.
     let s = c.args.self.now in
     let e = get_or s.entries.now c.args.place blank in
-    ranked_as s.closed.now e c.priority-of.result c.priority-of.ensures
+    ranked_as s.closed.now e c.priority_of.result c.priority_of.ensures
     ∙ sym (get_or-map (ranked_by s.closed.now) s.entries.now c.args.place blank d (rw length-map at c.requires))

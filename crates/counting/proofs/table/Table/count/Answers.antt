@@ -9,7 +9,7 @@ use Rattle.counting.proofs.table.Table.count.Goals as goal
 
 pub written-place-requires : goal.written-place-requires
 written-place-requires g c =
-    let used = ap length c.used-rows-used.ensures ∙ length-take c.args.self.now.used c.args.self.now.rows.now in
+    let used = ap length c.used_rows-used.ensures ∙ length-take c.args.self.now.used c.args.self.now.rows.now in
     let open_still = c.if-refuses.ensures in
     record { some = grind (arith, nat_tests); fits = omega arith }
 
@@ -21,7 +21,7 @@ returns g c =
     let place = c.written-place.result.0 in
     let row = c.written-place.result.1 in
     let new = counting m (length t.rows) used c.args.key c.args.number in
-    let e = c.used-rows-used.ensures in
+    let e = c.used_rows-used.ensures in
     let w = c.written-place.ensures in
     let q : put used place row ≡ new = ap (λ us. put us place row) (sym e) ∙ w.rows ∙ ap (λ us. counting m (length t.rows) us c.args.key c.args.number) e in
     let next : place ≤ length used = omega (arith, w.next, ap length e) in

@@ -40,9 +40,9 @@ pub returns : goal.returns
 returns g c =
     let m = g.K.Key.meaning in
     let used = c.args.used.now in
-    let place = c.in-Some-least-place.place in
+    let place = c.in-Some-least_place.place in
     let replace = replaced c.args.key c.args.number in
-    let chosen = c.in-Some-least-place.ensures in
+    let chosen = c.in-Some-least_place.ensures in
     let within = chosen.first.0 in
     record {
       rows =

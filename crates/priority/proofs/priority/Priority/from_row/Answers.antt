@@ -5,5 +5,5 @@ use Rattle.priority.proofs.priority.Priority.from_row.Goals as goal
 
 pub returns : goal.returns
 returns c =
-    let e = c.new.ensures ∙ ap priority_from c.row-parts.ensures in
+    let e = c.new.ensures ∙ ap priority_from c.row_parts.ensures in
     record { value = e; made = λ b. e ∙ made_exactly c.args.row b }

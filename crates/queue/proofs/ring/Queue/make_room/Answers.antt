@@ -11,12 +11,12 @@ returns-then-self g c =
     let same = ap length c.tidy.ensures.held in
     let rows = ap length c.tidy.ensures.rows in
     record {
-      held = c.drop-earliest.ensures.held ∙ ap (drop 1) c.tidy.ensures.held ∙ sym (with_room_full (length q.rows.now) _ (omega arith));
-      next = c.drop-earliest.ensures.next ∙ c.tidy.ensures.next;
-      tidy = c.drop-earliest.ensures.tidy;
-      room = c.drop-earliest.ensures.room;
-      rows = c.drop-earliest.ensures.rows ∙ c.tidy.ensures.rows;
-      lent = c.drop-earliest.ensures.lent ∙ c.tidy.ensures.lent;
+      held = c.drop_earliest.ensures.held ∙ ap (drop 1) c.tidy.ensures.held ∙ sym (with_room_full (length q.rows.now) _ (omega arith));
+      next = c.drop_earliest.ensures.next ∙ c.tidy.ensures.next;
+      tidy = c.drop_earliest.ensures.tidy;
+      room = c.drop_earliest.ensures.room;
+      rows = c.drop_earliest.ensures.rows ∙ c.tidy.ensures.rows;
+      lent = c.drop_earliest.ensures.lent ∙ c.tidy.ensures.lent;
     }
 
 pub returns-else-self : goal.returns-else-self

@@ -22,9 +22,9 @@ returns-else-place-eq0 g c =
     let many = length_in_order t.rows.now t.head t.len in
     let same = ap length c.tidy.ensures.held in
     record {
-      held = c.close-up.ensures.held ∙ ap (λ xs. without xs c.args.place) c.tidy.ensures.held;
+      held = c.close_up.ensures.held ∙ ap (λ xs. without xs c.args.place) c.tidy.ensures.held;
       past = λ past. absurd (omega arith);
       earliest = λ first. absurd (omega arith);
-      len = c.close-up.ensures.len ∙ ap length c.tidy.ensures.rows;
-      lent = c.close-up.ensures.lent ∙ c.tidy.ensures.lent;
+      len = c.close_up.ensures.len ∙ ap length c.tidy.ensures.rows;
+      lent = c.close_up.ensures.lent ∙ c.tidy.ensures.lent;
     }

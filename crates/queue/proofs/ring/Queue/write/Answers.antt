@@ -8,7 +8,7 @@ pub returns : goal.returns
 returns g c =
     let q = c.args.self.now in
     record {
-      held = ap (λ k. in_order (set q.rows.now k c.args.x) q.head q.len) c.row-of-row.ensures.row
+      held = ap (λ k. in_order (set q.rows.now k c.args.x) q.head q.len) c.row_of-row.ensures.row
           ∙ in_order_write q.rows.now q.head q.len c.args.place c.args.x c.requires.tidy.first c.requires.tidy.many c.requires.within;
       many = refl;
       tidy = record { first = simp length-set c.requires.tidy.first; many = simp length-set c.requires.tidy.many };

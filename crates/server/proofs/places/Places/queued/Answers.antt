@@ -8,4 +8,4 @@ use Rattle.server.proofs.places.Places.queued.Goals as goal
 pub returns : goal.returns
 returns c =
     let q = held c.args.self.now.queue in
-    c.at.ensures ∙ ap (slice_get q) c.seek-entry.ensures ∙ nth_seek entry_page c.args.page q
+    c.at.ensures ∙ ap (slice_get q) c.seek_entry.ensures ∙ nth_seek entry_page c.args.page q

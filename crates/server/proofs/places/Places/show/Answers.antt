@@ -9,8 +9,8 @@ returns-in-Some c =
     let cs = cached c.args.self.now.cache in
     let r = copied c.args.page cs c.args.buffer.now c.in-Some.place c.requires (sym c.find.ensures ∙ c.in-Some.is) in
     record {
-      value = c.copy-out.ensures.value ∙ r.0;
-      buffer = c.copy-out.ensures.buffer ∙ r.1;
+      value = c.copy_out.ensures.value ∙ r.0;
+      buffer = c.copy_out.ensures.buffer ∙ r.1;
       kept = ?;
     }
 

@@ -9,7 +9,7 @@ pub returns : goal.returns
 returns c =
     let q = held c.args.self.now.queue in
     record {
-      queue = c.remove.ensures.held ∙ ap (without q) c.seek-entry-place.ensures ∙ without_seek entry_page c.args.page q;
+      queue = c.remove.ensures.held ∙ ap (without q) c.seek_entry-place.ensures ∙ without_seek entry_page c.args.page q;
       cache = refl;
       many = c.remove.ensures.len;
     }

@@ -15,7 +15,7 @@ returns c =
     let cs = cached v.places.cache in
     let p = c.args.page in
     let h = c.args.hints in
-    let value = c.choose.ensures ∙ ap (λ rs. choose room rs (entries cs) p h) c.used-rows-closed.ensures in
+    let value = c.choose.ensures ∙ ap (λ rs. choose room rs (entries cs) p h) c.used_rows-closed.ensures in
     record {
       value = value;
       suits = λ x k. settled_chosen room (cache_places v.places.cache) p x cs k c.requires c.choose.result (subst (Chosen room p cs) (sym value) (chosen room closed cs p h));

@@ -16,5 +16,5 @@ returns-then-count-gt-MOST-HINTS c =
 pub returns : goal.returns
 returns c =
     let i = c.args.self.now in
-    let value : result_map_both meaning refused c.hint-set-of.result ≡ hints_from i.client (values_of i.hints.now) = search rules in
-    record { value = value; succeeds = λ h. hints_there i.client i.hints.now c.hint-set-of.result value h.0 h.1 }
+    let value : result_map_both meaning refused c.hint_set_of.result ≡ hints_from i.client (values_of i.hints.now) = search rules in
+    record { value = value; succeeds = λ h. hints_there i.client i.hints.now c.hint_set_of.result value h.0 h.1 }

@@ -8,7 +8,7 @@ pub loop-i-preserved : goal.loop-i-preserved
 loop-i-preserved c =
     let l = c.loop-i in
     let lt : l.i < length l.values = omega arith in
-    λ k h. ap (λ v. get_or (set l.values l.i v) k 0) c.hint-value.ensures
+    λ k h. ap (λ v. get_or (set l.values l.i v) k 0) c.hint_value.ensures
     ∙ fill_by_more (value_at c.args.words.now) l.values l.i 0 lt l.invariant k h
 
 pub returns : goal.returns

@@ -5,5 +5,5 @@ use Rattle.values.proofs.hint_set.HintSet.new.Goals as goal
 
 pub returns : goal.returns
 returns c =
-    made_from_padded c.args.client c.args.values.now (omega arith) c.from-numbers.result
-    (c.from-numbers.ensures.value ∙ ap numbers_from c.padded.ensures)
+    made_from_padded c.args.client c.args.values.now (omega arith) c.from_numbers.result
+    (c.from_numbers.ensures.value ∙ ap numbers_from c.padded.ensures)

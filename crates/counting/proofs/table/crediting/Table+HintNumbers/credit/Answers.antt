@@ -12,7 +12,7 @@ use Rattle.counting.proofs.table.crediting.Table+HintNumbers.credit.Goals as goa
 
 pub bounds-self-place : goal.bounds-self-place
 bounds-self-place c =
-    let n = ap length c.used-rows.ensures ∙ length-take c.args.self.now.used c.args.self.now.rows.now in
+    let n = ap length c.used_rows.ensures ∙ length-take c.args.self.now.used c.args.self.now.rows.now in
     omega (arith, c.in-Some.ensures.within)
 
 pub returns-in-Some : goal.returns-in-Some
@@ -23,7 +23,7 @@ returns-in-Some c =
     let change : Row HintNumbers → Row HintNumbers = credited c.args.distance in
     let place = c.in-Some.place in
     let row = c.in-Some.row in
-    let e = c.used-rows.ensures in
+    let e = c.used_rows.ensures in
     let f = sym (c.in-Some.ensures.value ∙ ap (λ us. found hint_meaning us key) e) in
     let s = found_some hint_meaning key used row (place, row) f in
     let next : place ≤ length used = omega (arith, s.within) in
@@ -43,7 +43,7 @@ pub returns-in-default : goal.returns-in-default
 returns-in-default c =
     let t = state_of c.args.self.now in
     let used = take t.used t.rows in
-    let f = sym (c.in-default.ensures.value ∙ ap (λ us. found hint_meaning us c.args.key) c.used-rows.ensures) in
+    let f = sym (c.in-default.ensures.value ∙ ap (λ us. found hint_meaning us c.args.key) c.used_rows.ensures) in
     let rows = sym (ap (λ rs. over rs t.rows) (credit_passes hint_meaning used c.args.key c.args.distance f) ∙ over_take t.rows t.used) in
     record {
       state = ap (λ rs. record { rows = rs; used = t.used; counted = t.counted }) rows;
