@@ -20,12 +20,14 @@ def identifiers():
         for n in names:
             if n.endswith(".rt"):
                 with open(os.path.join(folder, n), encoding="utf-8") as f:
-                    found |= set(re.findall(r"\b[a-z][a-z0-9]*(?:_[a-z0-9]+)+\b", f.read()))
-    return found | {"as_slice", "as_str", "from_be_bytes", "split_at", "split_first", "saturating_sub", "copy_from_slice", "iter_mut", "checked_add"}
+                    found |= set(re.findall(r"\b[A-Za-z][A-Za-z0-9]*(?:_[A-Za-z0-9]+)+\b", f.read()))
+    # Rattle's own words for steps and goals.
+    return found | {"in_ok", "in_err", "in_default", "type_inv", "from_residual", "from_be_bytes", "offset_bounds", "slice_bounds", "overflow_add", "overflow_sub", "overflow_mul", "nonzero_div"}
 
 
 def spelled(word, known):
-    parts = word.split("-")
+    # '--item' is what stands for the variable _item.
+    parts = [p.replace("\0", "_") for p in re.sub(r"(^|-)-", r"\1\0", word).split("-")]
     out, i = [], 0
     while i < len(parts):
         for j in range(len(parts), i, -1):
@@ -47,7 +49,7 @@ def main(crates):
                 with open(p, encoding="utf-8") as f:
                     t = f.read()
                 skip = {w for m in USED.finditer(t) for w in re.split(r"[,\s]+|\bas\b", m[1])}
-                new = TOKEN.sub(lambda m: spelled(m[0], known) if "-" in m[0] and m[0] not in skip else m[0], t)
+                new = TOKEN.sub(lambda m: spelled(m[0], known) if "-" in m[0] and not m[0].startswith("--") and m[0] not in skip else m[0], t)
                 if new != t:
                     with open(p, "w", encoding="utf-8") as f:
                         f.write(new)

@@ -15,7 +15,7 @@ pub struct Counting<K> {
 
 /// Counts a key; a refused one changes nothing.
 fn count_one<K: Key + Copy>(table: &mut Table<'_, K>, c: Counting<K>)
-    ensures state { state_of table.new ≡ after_count meaning (state_of table.old) c.key c.number }
+    ensures state { state_of table.new ≡ after_count K.Key.meaning (state_of table.old) c.key c.number }
     ensures lent { table.new.rows.ghost_name ≡ table.old.rows.ghost_name }
 {
     let _ = table.count(c.key, c.number);
@@ -26,9 +26,9 @@ pub fn count_all<'a, K: Key + Copy>(
     rows: &'a mut [Row<K>],
     countings: &[Counting<K>],
 ) -> Table<'a, K>
-    ensures state { state_of result ≡ after_all meaning rows.old countings.now }
+    ensures state { state_of result ≡ after_all K.Key.meaning rows.old countings.now }
     ensures counted { result.counted ≡ length (window (length rows.old) countings.now) }
-    ensures lawful { Lawful meaning (length rows.old) (used_rows (state_of result)) (window (length rows.old) countings.now) }
+    ensures lawful { Lawful K.Key.meaning (length rows.old) (used_rows (state_of result)) (window (length rows.old) countings.now) }
     ensures uncredited { Uncredited (used_rows (state_of result)) }
     ensures lent { result.rows.ghost_name ≡ rows.entry.ghost_name }
 {

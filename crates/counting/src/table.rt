@@ -68,7 +68,7 @@ impl<'a, K: Key + Copy> Table<'a, K> {
 
     /// The key's row, if it has one.
     pub fn row_of(&self, key: K) -> Option<Row<K>>
-        ensures { result ≡ row_in meaning (used_rows (state_of self.now)) key }
+        ensures { result ≡ row_in K.Key.meaning (used_rows (state_of self.now)) key }
     {
         match find(self.used_rows(), key) {
             Some((_, row)) => Some(row),
@@ -78,7 +78,7 @@ impl<'a, K: Key + Copy> Table<'a, K> {
 
     /// The key's count and its error, if it has a row.
     pub fn lookup(&self, key: K) -> Option<(u32, u32)>
-        ensures { result ≡ looked meaning (used_rows (state_of self.now)) key }
+        ensures { result ≡ looked K.Key.meaning (used_rows (state_of self.now)) key }
     {
         match self.row_of(key) {
             Some(row) => Some((row.count, row.error)),

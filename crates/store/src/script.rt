@@ -25,9 +25,9 @@ pub struct Call {
 
 /// Reads a page into the buffer, or writes the buffer to a page.
 fn make<S: Store>(store: &mut S, access: Access, page: u32, buffer: &mut [u8]) -> Result<(), Fault>
-    ensures answer { numbered result ≡ answer_to access (meaning store.old) page (length buffer.old) }
-    ensures buffer { buffer.new ≡ buffer_after access (meaning store.old) page buffer.old }
-    ensures after { meaning store.new ≡ store_after access (meaning store.old) page buffer.old }
+    ensures answer { numbered result ≡ answer_to access (S.Store.meaning store.old) page (length buffer.old) }
+    ensures buffer { buffer.new ≡ buffer_after access (S.Store.meaning store.old) page buffer.old }
+    ensures after { S.Store.meaning store.new ≡ store_after access (S.Store.meaning store.old) page buffer.old }
 {
     match access {
         Access::Read => store.read(page, buffer),
@@ -45,7 +45,7 @@ pub fn perform<S: Store>(
     outcomes: &mut [Result<(), Fault>],
 ) -> usize
     ensures many { result ≡ fitting script.now (length memory.old) (length outcomes.old) }
-    ensures performed { Performed (meaning store.old) (meaning store.new) (take result script.now) memory.old memory.new (map numbered outcomes.old) (map numbered outcomes.new) }
+    ensures performed { Performed (S.Store.meaning store.old) (S.Store.meaning store.new) (take result script.now) memory.old memory.new (map numbered outcomes.old) (map numbered outcomes.new) }
 {
     let most = script.len().min(outcomes.len());
     let mut start = 0;

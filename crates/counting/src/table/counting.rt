@@ -17,7 +17,7 @@ const MOST_COUNTED: u32 = 2048;
 fn written<K: Key + Copy>(used: &[Row<K>], room: usize, key: K, number: u32) -> (usize, Row<K>)
     requires some { 0 < room }
     requires fits { length used.now ≤ room }
-    ensures rows { put used.now result.0 result.1 ≡ counting meaning room used.now key number }
+    ensures rows { put used.now result.0 result.1 ≡ counting K.Key.meaning room used.now key number }
     ensures next { result.0 ≤ length used.now }
     ensures within { result.0 < room }
 {
@@ -43,7 +43,7 @@ impl<'a, K: Key + Copy> Table<'a, K> {
     /// Counts a key at a request number, or refuses and changes nothing.
     pub fn count(&mut self, key: K, number: u32) -> Result<(), NotCounted>
         ensures answer { numbered result ≡ answer (state_of self.old) }
-        ensures state { state_of self.new ≡ after_count meaning (state_of self.old) key number }
+        ensures state { state_of self.new ≡ after_count K.Key.meaning (state_of self.old) key number }
         ensures len { length self.new.rows.now ≡ length self.old.rows.now }
         ensures lent { self.new.rows.ghost_name ≡ self.old.rows.ghost_name }
     {

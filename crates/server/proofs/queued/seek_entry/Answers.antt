@@ -7,10 +7,10 @@ use Rattle.server.proofs.Knowns.{get_d_some, past_end}
 use Rattle.server.proofs.queued.seek_entry.Goals as goal
 
 -- a place before the end has an entry
-pub returns-in-default : goal.returns-in-default
-returns-in-default c =
+pub returns-in_default : goal.returns-in_default
+returns-in_default c =
     let q = held c.args.queue.now in
-    let past = past_end q c.loop-place.place (sym c.at.ensures ∙ c.in-default.is) in
+    let past = past_end q c.loop-place.place (sym c.at.ensures ∙ c.in_default.is) in
     absurd (omega (arith, past, c.loop-place-test.true, c.len-place-end.ensures.many))
 
 pub returns-then-entry_page : goal.returns-then-entry_page

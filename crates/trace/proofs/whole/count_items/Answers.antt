@@ -14,46 +14,46 @@ use Rattle.trace.proofs.whole.count_items.Goals as goal
 bytes : (bs : List ℕ) → ((i : ℕ) → Fits w8 (get_or bs i 0)) → Bytes bs
 bytes bs typed = All-from_get_or (λ b. b < 2 ^ 8) bs 0 (λ i _. omega (arith, typed i))
 
-pub returns-in-err--sizes : goal.returns-in-err--sizes
-returns-in-err--sizes c =
+pub returns-in_err-_sizes : goal.returns-in_err-_sizes
+returns-in_err-_sizes c =
     let bs = c.args.trace.now in
-    let p = err_from_is_err_and c.from-residual.result c.from-residual.ensures.1 in
-    let fault = refused c.in-err--sizes.field-0.0 in
-    let first_fault : FirstFault bs fault = inl (sym (c.in-err--sizes.ensures.value ∙ ap sizes_read c.new-reader.ensures)) in
+    let p = err_from_is_err_and c.from_residual.result c.from_residual.ensures.1 in
+    let fault = refused c.in_err-_sizes.field-0.0 in
+    let first_fault : FirstFault bs fault = inl (sym (c.in_err-_sizes.ensures.value ∙ ap sizes_read c.new-reader.ensures)) in
     rw (p.1, p.2) (record { reading = first_fault; format = fault_no_encoding bs fault first_fault })
 
 pub loop-item-init : goal.loop-item-init
 loop-item-init c =
     let bs = c.args.trace.now in
-    let e = c.in-ok--sizes.ensures in
+    let e = c.in_ok-_sizes.ensures in
     subst (λ m. SoFar bs m 0) (sym (e.after ∙ ap after_sizes c.new-reader.ensures))
-    (so_far_none bs _ (bytes bs c.type-inv.trace) (sym (e.value ∙ ap sizes_read c.new-reader.ensures)))
+    (so_far_none bs _ (bytes bs c.type_inv.trace) (sym (e.value ∙ ap sizes_read c.new-reader.ensures)))
 
-pub returns-in-err--item : goal.returns-in-err--item
-returns-in-err--item c =
+pub returns-in_err-_item : goal.returns-in_err-_item
+returns-in_err-_item c =
     let bs = c.args.trace.now in
     let s = c.loop-item.invariant in
-    let p = err_from_is_err_and c.from-residual-in-err--item.result c.from-residual-in-err--item.ensures.1 in
-    let fault = refused c.in-err--item.field-0.0 in
+    let p = err_from_is_err_and c.from_residual-in_err-_item.result c.from_residual-in_err-_item.ensures.1 in
+    let fault = refused c.in_err-_item.field-0.0 in
     let first_fault : FirstFault bs fault =
-    inr (record { requests = s.requests; last = left c.loop-item.reader; reads = s.reads; faults = sym c.in-err--item.ensures.value }) in
+    inr (record { requests = s.requests; last = left c.loop-item.reader; reads = s.reads; faults = sym c.in_err-_item.ensures.value }) in
     rw (p.1, p.2) (record { reading = first_fault; format = fault_no_encoding bs fault first_fault })
 
-item_is : (c : goal.In-Some) → item_read (left c.loop-item.reader) ≡ Ok (Some (request c.in-Some.-item))
-item_is c = sym c.in-ok--item.ensures.value ∙ ap (λ o. Ok (option_map request o)) c.in-Some.is
+item_is : (c : goal.In-Some) → item_read (left c.loop-item.reader) ≡ Ok (Some (request c.in-Some._item))
+item_is c = sym c.in_ok-_item.ensures.value ∙ ap (λ o. Ok (option_map request o)) c.in-Some.is
 
 pub loop-item-smaller : goal.loop-item-smaller
 loop-item-smaller c =
-    omega (arith, item_shortens c.loop-item.invariant (request c.in-Some.-item) (item_is c), ap (λ m. length m.rest) c.in-ok--item.ensures.after)
+    omega (arith, item_shortens c.loop-item.invariant (request c.in-Some._item) (item_is c), ap (λ m. length m.rest) c.in_ok-_item.ensures.after)
 
 pub loop-item-preserved : goal.loop-item-preserved
 loop-item-preserved c =
-    subst (λ m. SoFar c.args.trace.now m (c.loop-item.count + 1)) (sym c.in-ok--item.ensures.after)
-    (so_far_more c.loop-item.invariant (request c.in-Some.-item) (item_is c))
+    subst (λ m. SoFar c.args.trace.now m (c.loop-item.count + 1)) (sym c.in_ok-_item.ensures.after)
+    (so_far_more c.loop-item.invariant (request c.in-Some._item) (item_is c))
 
 pub returns : goal.returns
 returns c =
     let ended : item_read (left c.loop-item.reader) ≡ Ok None =
-    sym c.in-ok--item.ensures.value ∙ ap (λ o. Ok (option_map request o)) c.in-default.is in
+    sym c.in_ok-_item.ensures.value ∙ ap (λ o. Ok (option_map request o)) c.in_default.is in
     let all = so_far_all c.loop-item.invariant ended in
-    record { reading = all; format = all_read_encodes _ _ (bytes c.args.trace.now c.type-inv.trace) all }
+    record { reading = all; format = all_read_encodes _ _ (bytes c.args.trace.now c.type_inv.trace) all }

@@ -5,8 +5,8 @@ use Rattle.cache.proofs.Blanks.{blank}
 use Rattle.cache.specs.RanksLemmas.{ranked_as}
 use Rattle.cache.proofs.ranking.RankingRankedRank.rank.Goals as goal
 
-pub offset-bounds-self-place : goal.offset-bounds-self-place
-offset-bounds-self-place c = let l : c.args.place < length c.args.self.now.entries.now = rw length-map at c.requires in search rules
+pub offset_bounds-self-place : goal.offset_bounds-self-place
+offset_bounds-self-place c = let l : c.args.place < length c.args.self.now.entries.now = rw length-map at c.requires in search rules
 
 pub bounds-self-place : goal.bounds-self-place
 bounds-self-place c = rw length-map at c.requires

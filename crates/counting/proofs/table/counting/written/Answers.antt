@@ -28,7 +28,7 @@ returns-then-used-room g c =
     let used = c.args.used.now in
     record {
       rows = ap (put used _) c.new.ensures ∙ put_end used _
-          ∙ sym (counting_enters m c.args.room used c.args.key c.args.number (sym c.in-default.ensures.value) c.if-used-room.true);
+          ∙ sym (counting_enters m c.args.room used c.args.key c.args.number (sym c.in_default.ensures.value) c.if-used-room.true);
       next = omega arith;
       within = c.if-used-room.true;
     }
@@ -48,7 +48,7 @@ returns g c =
       rows =
           ap (put used place) (c.replaced.ensures ∙ ap replace c.index-used-place.is) ∙ put_amend replace used place _ within
           ∙ ap (amend replace used) (same place (least sooner used) (chosen.some (omega (arith, within))))
-          ∙ sym (counting_replaces m c.args.room used c.args.key c.args.number (sym c.in-default.ensures.value) c.if-used-room.false);
+          ∙ sym (counting_replaces m c.args.room used c.args.key c.args.number (sym c.in_default.ensures.value) c.if-used-room.false);
       next = omega (arith, within);
       within = omega (arith, within, c.requires.fits);
     }

@@ -5,9 +5,9 @@ use Rattle.trace.specs.Hints.{values_of}
 use Rattle.trace.proofs.Hints.{hints_there, too_many_hints}
 use Rattle.trace.proofs.item.Item.hint_set.Goals as goal
 
-pub returns-then-count-gt-MOST-HINTS : goal.returns-then-count-gt-MOST-HINTS
-returns-then-count-gt-MOST-HINTS c =
-    let over = c.if-count-gt-MOST-HINTS.true in
+pub returns-then-count-gt-MOST_HINTS : goal.returns-then-count-gt-MOST_HINTS
+returns-then-count-gt-MOST_HINTS c =
+    let over = c.if-count-gt-MOST_HINTS.true in
     record {
       value = too_many_hints c.args.self.now.client c.args.self.now.hints.now over;
       succeeds = λ h. absurd (omega (arith, over, h.1));

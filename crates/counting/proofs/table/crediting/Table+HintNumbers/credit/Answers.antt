@@ -39,11 +39,11 @@ returns-in-Some c =
       lent = refl;
     }
 
-pub returns-in-default : goal.returns-in-default
-returns-in-default c =
+pub returns-in_default : goal.returns-in_default
+returns-in_default c =
     let t = state_of c.args.self.now in
     let used = take t.used t.rows in
-    let f = sym (c.in-default.ensures.value ∙ ap (λ us. found hint_meaning us c.args.key) c.used_rows.ensures) in
+    let f = sym (c.in_default.ensures.value ∙ ap (λ us. found hint_meaning us c.args.key) c.used_rows.ensures) in
     let rows = sym (ap (λ rs. over rs t.rows) (credit_passes hint_meaning used c.args.key c.args.distance f) ∙ over_take t.rows t.used) in
     record {
       state = ap (λ rs. record { rows = rs; used = t.used; counted = t.counted }) rows;
