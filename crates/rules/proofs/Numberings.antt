@@ -31,14 +31,14 @@ module _ (sizes : SizeNumbers) where
     numbers = (λ a q. refused f a q, w.numbers);
     latest = w.latest;
     limit = w.limit;
-    same_sizes = w.same-sizes;
+    same_sizes = w.same_sizes;
     still_open = w.still_open;
   }
   request_keeps None h t m r given e w = record {
     numbers = (told, w.numbers);
     latest = omega (arith, w.latest);
     limit = omega (arith, granted t m r (length given) e);
-    same_sizes = w.same-sizes;
+    same_sizes = w.same_sizes;
     still_open = w.still_open;
   }
     where
@@ -50,8 +50,8 @@ module _ (sizes : SizeNumbers) where
   numbered_keeps : Keeps (Numbered sizes)
   numbered_keeps = record {
     request = request_keeps;
-    peek = λ h t m p given w. record { numbers = (tt, w.numbers); latest = w.latest; limit = w.limit; same_sizes = w.same-sizes; still_open = w.still_open };
-    look = λ h t m l w. record { numbers = (tt, w.numbers); latest = w.latest; limit = w.limit; same_sizes = w.same-sizes; still_open = w.still_open };
+    peek = λ h t m p given w. record { numbers = (tt, w.numbers); latest = w.latest; limit = w.limit; same_sizes = w.same_sizes; still_open = w.still_open };
+    look = λ h t m l w. record { numbers = (tt, w.numbers); latest = w.latest; limit = w.limit; same_sizes = w.same_sizes; still_open = w.still_open };
   }
 
   numbered_start : (m : Meaning) → Numbered sizes [] (opened sizes) m
