@@ -1,5 +1,5 @@
 -- For the server above: what the cache's calls find and leave, in the words of the rules.
-use Rattle.std.proofs.Common.{◌≡◌, ℕ, suc, ◌<◌, ◌≤◌, Bool, true, false, cond, ◌&&◌, eqb, ltb, List, [], ◌∷◌, ◌++◌, length, set, Some, None, sym, refl, ap, ◌∙◌, ap₂, arith}
+use Rattle.std.proofs.Common.{◌≡◌, ℕ, ◌<◌, ◌≤◌, Bool, true, false, cond, ◌&&◌, ltb, List, [], ◌∷◌, ◌++◌, length, set, Some, None, sym, refl, ap, ◌∙◌, ap₂, arith}
 use Rattle.std.specs.List.{slice_get}
 use Rattle.std.proofs.lemmas.Option.{slice_get_past}
 use Rattle.std.proofs.lemmas.Bool.{eq-eqb, lt-ltb, ltb-false, ltb-true}
@@ -7,7 +7,7 @@ use Rattle.rules.specs.declared.choice.Choice.{Choice}
 use Rattle.rules.specs.declared.choice.Choice.TheVariants.{Hit, Free, Evict, Pass}
 use Rattle.rules.specs.declared.entry.Entry.{Entry}
 use Rattle.rules.specs.State.{CachedPage, entries}
-use Rattle.rules.specs.Pages.{cached_page, find, in_cache, seek}
+use Rattle.rules.specs.Pages.{cached_page, in_cache, seek}
 use Rattle.rules.specs.Placing.{cache_after}
 use Rattle.rules.specs.Requests.{cached_or}
 use Rattle.rules.proofs.Chosen.{Chosen, as_hit, as_free, as_evict, as_pass}

@@ -7,7 +7,7 @@
 --   in_order_within                           numbers past the rows do as the number of rows
 --   in_order_read                             the element at a place, as it is read
 --   in_order_write, -push, -drop, -fewer      one element written, one more, the earliest dropped, the latest dropped
-use Rattle.std.proofs.Common.{◌≡◌, ℕ, ◌+◌, ◌-◌, ◌<◌, ◌≤◌, min, ◌≢◌, List, [], ◌∷◌, ◌++◌, length, get_or, take, drop, set, sym, refl, ap, ◌∙◌, ⊎_elim, arith, rules}
+use Rattle.std.proofs.Common.{◌≡◌, ℕ, ◌+◌, ◌-◌, ◌<◌, ◌≤◌, min, ◌≢◌, List, [], ◌∷◌, ◌++◌, length, get_or, take, drop, set, sym, ap, ◌∙◌, ⊎_elim, arith, rules}
 use Rattle.std.proofs.lemmas.List.{places, same_lists, length-take, length-append, length-drop, get_or-set_same, get_or-set_other, length-set, take-take, get_or-drop, get_or_append_left, get_or_push, length_push, nil_from_length}
 use Rattle.std.proofs.lemmas.Bool.{cases_eq, cases_lt}
 use Rattle.queue.specs.Rings.{in_order, row_of, next_row}

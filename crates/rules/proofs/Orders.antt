@@ -7,7 +7,6 @@ use Rattle.std.proofs.lemmas.Bool.{and_parts, leb-true, ltb-false, or_parts}
 use Rattle.std.proofs.lemmas.Bool.Decides.{nat_tests}
 use Rattle.values.specs.declared.hint_numbers.HintNumbers.{HintNumbers}
 use Rattle.keys.specs.Meanings.{hint_meaning}
-use Rattle.order.specs.Least.{least}
 use Rattle.order.proofs.Leasts.{least_first}
 use Rattle.order.proofs.Thens.{ranks_then}
 use Rattle.counting.specs.Rows.{row_in}

@@ -1,5 +1,5 @@
 -- A script that is being performed: what holds at the start, after each call and at the end.
-use Rattle.std.proofs.Common.{◌≡◌, ℕ, zero, suc, ◌+◌, ◌-◌, ◌<◌, ◌≤◌, min, cond, List, [], ◌∷◌, ◌++◌, length, get_or, take, drop, set, Ok, Result, sym, refl, ap, ◌∙◌, subst, append_assoc, zero-add, one-add, arith, length-append, length-drop}
+use Rattle.std.proofs.Common.{◌≡◌, ℕ, zero, suc, ◌+◌, ◌-◌, ◌<◌, ◌≤◌, min, cond, List, [], ◌∷◌, ◌++◌, length, get_or, take, drop, set, Result, sym, refl, ap, ◌∙◌, subst, append_assoc, zero-add, one-add, arith, length-append, length-drop}
 use native.Mathlib.Nat.{sub-zero}
 use lib.Seq.{take-append_seam, drop-append_seam, set_at}
 use Rattle.std.proofs.lemmas.List.{take-append-drop, length-take-le, take_more, drop_more, length_push}

@@ -2,7 +2,7 @@
 --   gathered     what the calls of a history have, from the oldest to the newest
 --   fitting      how many calls of a script there is room for
 --   Performed    what performing a script did
-use Rattle.std.specs.Prelude.{◌≡◌, ℕ, zero, suc, ◌+◌, ◌-◌, cond, List, [], ◌∷◌, ◌++◌, length, drop, Result, nat_le}
+use Rattle.std.specs.Prelude.{◌≡◌, ℕ, zero, suc, ◌-◌, cond, List, [], ◌∷◌, ◌++◌, length, drop, Result, nat_le}
 use Rattle.store.specs.declared.script.Call.{Call}
 use Rattle.store.specs.Faults.{Refused}
 use Rattle.store.specs.Meaning.{Meaning}

@@ -1,4 +1,4 @@
-use Rattle.std.proofs.Common.{◌≡◌, [], ◌∷◌, ◌++◌, length, take, sym, refl, ap, ◌∙◌, take_all}
+use Rattle.std.proofs.Common.{[], ◌∷◌, ◌++◌, length, take, sym, refl, ap, ◌∙◌, take_all}
 use Rattle.std.proofs.lemmas.List.{take_more}
 use Rattle.queue.specs.Held.{held, places}
 use Rattle.queue.specs.Lists.{latest}

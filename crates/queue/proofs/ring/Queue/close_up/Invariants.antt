@@ -1,4 +1,4 @@
-use Rattle.std.proofs.Common.{◌≡◌, length}
+use Rattle.std.proofs.Common.{◌≡◌}
 use Rattle.queue.specs.Held.{Tidy, held, places}
 use Rattle.queue.proofs.Removals.{shifted}
 use Rattle.queue.proofs.ring.Queue.close_up.Given as goal

@@ -1,4 +1,4 @@
-use Rattle.std.proofs.Common.{ap, ◌∙◌}
+use Rattle.std.proofs.Common.{ap}
 use Rattle.queue.specs.Rings.{in_order}
 use Rattle.queue.proofs.ring.Queue.empty.Goals as goal
 

@@ -1,4 +1,4 @@
-use Rattle.std.proofs.Common.{◌≡◌, List, sym, refl, arith}
+use Rattle.std.proofs.Common.{sym, refl, arith}
 use Rattle.std.proofs.lemmas.List.{set_past}
 use Rattle.queue.proofs.Rings.{in_order_none}
 use Rattle.queue.proofs.ring.Queue.enter.Goals as goal

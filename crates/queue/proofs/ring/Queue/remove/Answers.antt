@@ -1,4 +1,4 @@
-use Rattle.std.proofs.Common.{◌≡◌, length, drop, sym, ap, ◌∙◌, arith}
+use Rattle.std.proofs.Common.{length, sym, ap, ◌∙◌, arith}
 use Rattle.queue.specs.Lists.{without}
 use Rattle.queue.proofs.Rings.{length_in_order}
 use Rattle.queue.proofs.Removals.{without_past}
