@@ -21,10 +21,10 @@ known_queued (Some x) q h = cc
 known_queued None q h = refl
 
 -- an element that is there, or the one that stands in for it
-pub get_d_some : {A : Type 0} (xs : List A) (i : ℕ) (d x : A) → slice_get xs i ≡ Some x → x ≡ get_or xs i d
-get_d_some [] i d x h = cc
-get_d_some (y ∷ xs) zero d x h = cc
-get_d_some (y ∷ xs) (suc i) d x h = get_d_some xs i d x h
+pub get_or_some : {A : Type 0} (xs : List A) (i : ℕ) (d x : A) → slice_get xs i ≡ Some x → x ≡ get_or xs i d
+get_or_some [] i d x h = cc
+get_or_some (y ∷ xs) zero d x h = cc
+get_or_some (y ∷ xs) (suc i) d x h = get_or_some xs i d x h
 
 pub get_or_none : {A : Type 0} (xs : List A) (i : ℕ) (d : A) → slice_get xs i ≡ None → d ≡ get_or xs i d
 get_or_none [] i d h = refl

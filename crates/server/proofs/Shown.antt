@@ -12,7 +12,7 @@ use Rattle.server.proofs.Knowns.{past_end}
 module _ (p : ℕ) (cs : List CachedPage) (given : List ℕ) where
   -- the page was found at a place
   module _ (i : ℕ) (k : length given ≡ 256) (found : sought p (entries cs) ≡ Some i) where
-    whole : takes cs i (length given) ≡ true
+    pub whole : takes cs i (length given) ≡ true
     whole = ap₂ (λ a b. a && b) (lt-ltb i (length cs) (sought_within p cs i found)) (eq-eqb (length given) 256 k)
 
     pub copied : (takes cs i (length given) ≡ cached_or (λ _. true) false (in_cache p cs)) × (shown cs i given ≡ cached_or (λ x. x.bytes) given (in_cache p cs))

@@ -32,6 +32,6 @@ pub struct Server<'a> {
     ghost page_room: { (is_open ≡ true → length (table_of tables.pages).rows ≡ sizes.page_rows) },
     ghost alike: { (table_of tables.pages).counted ≡ (table_of tables.live).counted },
     ghost unfinished: { (table_of tables.live).counted < sizes.window },
-    ghost new: { (number ≡ 0 → all_empty (places_of places) (tables_of tables) ≡ true) },
+    ghost fresh: { (number ≡ 0 → all_empty (places_of places) (tables_of tables) ≡ true) },
     ghost hinted: { all_hinted (places_of places) ≡ true },
 }

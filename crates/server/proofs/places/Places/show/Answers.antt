@@ -1,7 +1,7 @@
 use Rattle.std.proofs.Common.{◌≡◌, true, false, sym, refl, ap, ◌∙◌}
-use Rattle.std.proofs.lemmas.Bool.{both_ways}
+use Rattle.std.proofs.lemmas.Bool.{false≢true}
 use Rattle.cache.specs.View.{cached}
-use Rattle.server.proofs.Shown.{copied, not_copied}
+use Rattle.server.proofs.Shown.{copied, not_copied, whole}
 use Rattle.server.proofs.places.Places.show.Goals as goal
 
 pub returns-in-Some : goal.returns-in-Some
@@ -11,7 +11,7 @@ returns-in-Some c =
     record {
       value = c.copy_out.ensures.value ∙ r.0;
       buffer = c.copy_out.ensures.buffer ∙ r.1;
-      kept = ?;
+      kept = λ f. absurd (false≢true (sym f ∙ c.copy_out.ensures.value ∙ whole c.args.page cs c.args.buffer.now c.in-Some.place c.requires (sym c.find.ensures ∙ c.in-Some.is)));
     }
 
 pub returns-in-None : goal.returns-in-None

@@ -9,14 +9,14 @@ returns-then-requests-sizes c =
     let t = c.args.self.now in
     let s = c.requires in
     let live = c.empty.ensures.state in
-    let closed = ap table_of c.swap.ensures.y-after in
+    let closed = ap table_of c.swap.ensures.y_after in
     let pages = c.empty-then-requests-sizes.ensures.state in
     let full = sym c.requests.ensures ∙ c.if-requests-sizes.true in
     record {
       after = same_parts (ap (λ x. x.counted) live) (ap used_rows live) (ap used_rows closed) (ap used_rows pages) ∙ closes c.args.sizes (tables_of t) full;
       sized = record {
         sized = record {
-          live_rows = c.empty.ensures.len ∙ ap (λ x. length (table_of x).rows) c.swap.ensures.x-after ∙ s.closed_rows;
+          live_rows = c.empty.ensures.len ∙ ap (λ x. length (table_of x).rows) c.swap.ensures.x_after ∙ s.closed_rows;
           closed_rows = ap (λ x. length x.rows) closed ∙ s.live_rows;
           page_rows = c.empty-then-requests-sizes.ensures.len ∙ s.page_rows;
           some_hints = s.some_hints;
