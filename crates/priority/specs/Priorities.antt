@@ -1,6 +1,6 @@
 -- Priorities: fractions within limits, and their order.
 --
---   parts_of         the parts of a priority
+--   parts_of        the parts of a priority
 --   within          whether parts lie within the limits
 --   priority_from   what making a priority from parts answers
 --   lowest          the parts of the lowest priority

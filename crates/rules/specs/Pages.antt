@@ -1,9 +1,9 @@
 -- Lists of things that each have a page.
 --
---   find       the first thing that has a page
---   seek       its place, or the length of the list where there is none
---   without    the list without it
---   how_many   how many things have a page
+--   find                 the first thing that has a page
+--   seek                 its place, or the length of the list where there is none
+--   without              the list without it
+--   how_many             how many things have a page
 --   in_cache, in_queue   the cached page, and the entry, that has a page
 use Rattle.std.specs.Prelude.{ℕ, suc, cond, List, [], ◌∷◌, Some, None, Option, ◌==◌}
 use Rattle.rules.specs.declared.entry.Entry.{Entry}

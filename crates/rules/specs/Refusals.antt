@@ -1,10 +1,10 @@
 -- What a call of the server answers when it refuses.
 --
---   Refused     a refusal: its number, and an origin where a store refused
---   plain       a refusal of the server itself
---   passed_up   a store's refusal, as the server gives it
+--   Refused      a refusal: its number, and an origin where a store refused
+--   plain        a refusal of the server itself
+--   passed_up    a store's refusal, as the server gives it
 --   refusal_of   the code's refusal in these words
---   numbered    the code's answer in these words
+--   numbered     the code's answer in these words
 use Rattle.std.specs.Prelude.{ℕ, Some, None, Ok, Err, Option, Result}
 use Rattle.store.specs.declared.fault.Origin.{Origin}
 use Rattle.store.specs.Faults.{Refused as StoreRefused, refusal_of as store_refusal_of}

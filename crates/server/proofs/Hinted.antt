@@ -1,5 +1,5 @@
 -- Entries with the numbers of hint sets stay so as pages are placed.
-use Rattle.std.proofs.Common.{◌≡◌, ℕ, zero, suc, Bool, true, false, cond, ◌&&◌, eqb, ltb, List, [], ◌∷◌, ◌++◌, length, get_or, drop, set, Some, None, Option, sym, refl, subst, ap₂}
+use Rattle.std.proofs.Common.{◌≡◌, ℕ, zero, suc, Bool, true, false, cond, ◌&&◌, eqb, ltb, List, [], ◌∷◌, ◌++◌, length, get_or, drop, set, Some, refl, subst, ap₂}
 use Rattle.std.proofs.lemmas.Bool.{and_parts}
 use Rattle.rules.specs.declared.choice.Choice.{Choice}
 use Rattle.rules.specs.declared.choice.Choice.TheVariants.{Hit, Free, Evict, Pass}

@@ -1,5 +1,5 @@
 -- Tables whose parts are others.
-use Rattle.std.proofs.Common.{◌≡◌, ℕ, ◌+◌, cond, eqb, List, [], sym, refl, ap, ◌∙◌}
+use Rattle.std.proofs.Common.{◌≡◌, ℕ, cond, List, sym, ap}
 use Rattle.std.proofs.lemmas.Bool.{eq-eqb, ne_eqb}
 use Rattle.values.specs.declared.hint_numbers.HintNumbers.{HintNumbers}
 use Rattle.values.specs.declared.size_numbers.SizeNumbers.{SizeNumbers}

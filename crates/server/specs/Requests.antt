@@ -1,12 +1,12 @@
 -- Requests as callers make them, and what the phases of one answer.
 --
---   request      a read or a write of a page with a hint set
+--   request       a read or a write of a page with a hint set
 --   is_cached     whether a page is cached
 --   cached_copy   a buffer with the copy of a cached page
 --   own_answer    what the server itself answers before the store is asked
 --   passed        what a store answers, as the server passes it up
 --   then          the first refusal of two answers in a row, or else the second answer
---   if_ok        one thing where a call was accepted, another where it was refused
+--   if_ok         one thing where a call was accepted, another where it was refused
 use Rattle.std.specs.Prelude.{ℕ, Bool, true, false, List, Some, None, Ok, Err, Option, Result}
 use Rattle.rules.specs.declared.request.Request.{Request}
 use Rattle.rules.specs.Pages.{in_cache}

@@ -127,6 +127,7 @@ impl<'a> Places<'a> {
         self.enqueue(choice, new);
         let _ = self.cache.settle(choice, new, bytes);
     }
+
     /// Does with a page what was chosen for it. Where the entries have the numbers of hint sets,
     /// and the new one too, they still do.
     pub(crate) fn place(&mut self, choice: Choice, new: Entry, bytes: &[u8])

@@ -1,12 +1,12 @@
 -- What a store answers when it refuses.
 --   number_of    the number of a cause
---   Refused     a refusal: a number and an origin
---   refuse      the answer that is a refusal
+--   Refused      a refusal: a number and an origin
+--   refuse       the answer that is a refusal
 --   refusal_of   a fault as a refusal
---   numbered    an answer with numbers in place of causes
---   here        the origin of a page that no pair has passed on
---   deeper      an origin as a pair passes it on
---   deepened    an answer as a pair passes it on
+--   numbered     an answer with numbers in place of causes
+--   here         the origin of a page that no pair has passed on
+--   deeper       an origin as a pair passes it on
+--   deepened     an answer as a pair passes it on
 use Rattle.std.specs.Prelude.{ℕ, ◌+◌, min, Ok, Err, Result}
 use Rattle.store.specs.declared.fault.Origin.{Origin}
 use Rattle.store.specs.declared.fault.Fault.{Fault}

@@ -1,7 +1,7 @@
 -- What each make of store means.
---   page_of, put_page    a page among the bytes of a memory
+--   page_of, put_page   a page among the bytes of a memory
 --   memory_after        a working store's memory after a write
---   mark_of              the mark that a mark byte stands for
+--   mark_of             the mark that a mark byte stands for
 --   working, plate      a store over bytes, its tally given
 --   interleaved         left and right in turn
 --   pair                two stores as one

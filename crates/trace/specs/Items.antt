@@ -1,12 +1,12 @@
 -- The items of a trace: a read or a write with its hint words, and a write with its fill word.
 --
---   then         the next answer, made from this one, unless this one is a fault
---   hint_words   the bytes after so many hint words
---   Request      an item: where it stands, what it asks, and the bytes of its hint words
---   Step         an item, the bytes after it, and their word place
---   item_at      the item at the front of some bytes
---   next_at      the same, or none at the end of a trace
---   Hinted       an item's client and hint words are those of a hint set
+--   then               the next answer, made from this one, unless this one is a fault
+--   hint_words         the bytes after so many hint words
+--   Request            an item: where it stands, what it asks, and the bytes of its hint words
+--   Step               an item, the bytes after it, and their word place
+--   item_at            the item at the front of some bytes
+--   next_at            the same, or none at the end of a trace
+--   Hinted             an item's client and hint words are those of a hint set
 --   request, stepped   the code's item and step in these words
 use Rattle.std.specs.Prelude.{ℕ, zero, suc, ◌+◌, ◌*◌, ◌≤◌, cond, List, length, take, Some, None, Ok, Err, Option, Result, ◌==◌}
 use Rattle.trace.specs.declared.item.Call.{Call}

@@ -1,7 +1,7 @@
 -- A reader of a trace: what it has left, and what each call answers and leaves.
 --
---   Left           the bytes that are left, and the place of their first word
---   left           what a reader has left
+--   Left                      the bytes that are left, and the place of their first word
+--   left                      what a reader has left
 --   sizes_read, after_sizes   what reading the sizes answers, and what it leaves
 --   item_read, after_item     what reading an item answers, and what it leaves
 use Rattle.std.specs.Prelude.{ℕ, List, Some, None, Ok, Err, Option, Result}

@@ -2,7 +2,7 @@
 --
 --   Hints          what a hint set says: its client and its values
 --   says           what plain numbers say, the values past the count left out
---   numbers_of      the plain numbers of a hint set
+--   numbers_of     the plain numbers of a hint set
 --   meaning        what a hint set says
 --   padded         the plain numbers of a client with up to five values
 --   hints_from     what making a hint set from a client and values answers

@@ -3,7 +3,7 @@
 --   place        a size's place in the order of the sizes, from 0
 --   limited      what the test of one size answers
 --   sizes_from   what making sizes from plain numbers answers
---   numbers_of    the plain numbers of sizes
+--   numbers_of   the plain numbers of sizes
 --   refused      the refusal: its number, and the place of the size that it names
 use Rattle.std.specs.Prelude.{ℕ, cond, ◌&&◌, Ok, Err, Result, nat_le}
 use Rattle.std.specs.Result.{result_and}

@@ -1,4 +1,4 @@
-use Rattle.std.proofs.Common.{◌≡◌, sym, ap, ◌∙◌, subst, ap₂}
+use Rattle.std.proofs.Common.{sym, ap, ◌∙◌, subst}
 use Rattle.cache.specs.View.{cached, places as cache_places}
 use Rattle.cache.proofs.Settles.{settled_chosen}
 use Rattle.rules.proofs.Chosen.{Chosen, chosen}

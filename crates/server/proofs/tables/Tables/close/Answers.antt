@@ -1,4 +1,4 @@
-use Rattle.std.proofs.Common.{◌≡◌, length, sym, refl, ap, ◌∙◌, arith}
+use Rattle.std.proofs.Common.{length, sym, ap, ◌∙◌, arith}
 use Rattle.counting.specs.Tables.{state_of as table_of, used_rows}
 use Rattle.server.specs.Parts.{tables_of}
 use Rattle.server.proofs.Learned.{closes, same_parts, stays}

@@ -1,4 +1,4 @@
-use Rattle.std.proofs.Common.{◌≡◌, ◌<◌, length, sym, refl, ap, ◌∙◌, ap₂, arith, rules}
+use Rattle.std.proofs.Common.{◌<◌, length, refl, ap, ◌∙◌, arith}
 use Rattle.counting.specs.Rule.{counting}
 use Rattle.counting.specs.Tables.{state_of as table_of, used_rows}
 use Rattle.counting.proofs.Afters.{count_accepted, used_after_count}

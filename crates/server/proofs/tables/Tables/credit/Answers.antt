@@ -3,7 +3,6 @@ use Rattle.counting.specs.Tables.{state_of as table_of}
 use Rattle.counting.proofs.Afters.{used_after_credit}
 use Rattle.keys.specs.Meanings.{hint_meaning}
 use Rattle.rules.specs.Learning.{credit_known}
-use Rattle.server.specs.Parts.{tables_of}
 use Rattle.counting.specs.Tables.{used_rows}
 use Rattle.server.proofs.Learned.{same_parts}
 use Rattle.server.proofs.tables.Tables.credit.Goals as goal
