@@ -49,7 +49,7 @@ def main(crates):
                 with open(p, encoding="utf-8") as f:
                     t = f.read()
                 skip = {w for m in USED.finditer(t) for w in re.split(r"[,\s]+|\bas\b", m[1])}
-                new = TOKEN.sub(lambda m: spelled(m[0], known) if "-" in m[0] and not m[0].startswith("--") and m[0] not in skip else m[0], t)
+                new = TOKEN.sub(lambda m: spelled(m[0], known) if re.search(r"\w.*-|-.*\w", m[0]) and m[0] not in skip else m[0], t)
                 if new != t:
                     with open(p, "w", encoding="utf-8") as f:
                         f.write(new)
