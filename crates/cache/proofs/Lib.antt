@@ -1,6 +1,5 @@
 pub mod Blanks
 pub mod Contests
 pub mod Helds
-pub mod Seeks
+pub mod Ranks
 pub mod Settles
-pub mod Views

@@ -10,19 +10,19 @@
 --   touched     the cache with another entry at a place, and the bytes as they were
 --   settles     whether a choice caches a page
 --   settled     the cache after a choice
-use Rattle.std.specs.Prelude.{ℕ, Bool, false, cond, ◌&&◌, List, length, Some, None, Option, ◌==◌, nat_lt}
-use Rattle.std.specs.List.{slice_get}
+use Rattle.std.specs.Prelude.{ℕ, Bool, false, cond, ◌&&◌, List, length, Option, ◌==◌, nat_lt}
+use Rattle.std.specs.List.{position, slice_get}
 use Rattle.rules.specs.declared.entry.Entry.{Entry}
 use Rattle.rules.specs.State.{CachedPage}
-use Rattle.rules.specs.Pages.{entry_page, seek}
+use Rattle.rules.specs.Pages.{entry_page}
 use Rattle.rules.specs.declared.choice.Choice.{Choice}
 use Rattle.rules.specs.declared.choice.Choice.TheVariants.{Hit, Free, Evict, Pass}
 use Rattle.rules.specs.Placing.{cache_after}
 use Rattle.rules.specs.Requests.{cached_or}
 
--- among entries, as the rules seek it
+-- among entries
 abbrev pub sought : ℕ → List Entry → Option ℕ
-sought p es = let i = seek entry_page p es in cond (nat_lt i (length es)) (Some i) None
+sought p es = position (λ e. entry_page e == p) es
 
 abbrev pub cached_as : Entry → List ℕ → CachedPage
 cached_as e bytes = record { entry = e; bytes = bytes }

@@ -1,5 +1,3 @@
 pub mod Changes
-pub mod Choosing
-pub mod Ranks
+pub mod Pages
 pub mod View
-pub mod RanksLemmas

@@ -2,9 +2,5 @@
 #![tactic(auto)]
 
 pub mod cache;
-pub mod choosing;
-mod page;
+mod choosing;
 pub mod priorities;
-mod rank;
-mod ranking;
-mod search;

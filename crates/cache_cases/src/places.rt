@@ -4,19 +4,10 @@ use values::hint_numbers::HintNumbers;
 
 /// An entry of a hint set without values.
 fn entry(page: u32, number: u32) -> Entry {
-    let hints = HintNumbers {
-        client: 0,
-        count: 0,
-        first: 0,
-        second: 0,
-        third: 0,
-        fourth: 0,
-        fifth: 0,
-    };
     Entry {
         page,
         number,
-        hints,
+        hints: HintNumbers::default(),
     }
 }
 

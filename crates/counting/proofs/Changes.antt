@@ -1,24 +1,18 @@
 -- What holds of each row, and of the sum of the counts, where one row changes or is added.
-use Rattle.std.proofs.Common.{◌≡◌, ℕ, zero, suc, ◌+◌, ◌*◌, ◌<◌, ◌≤◌, ◌⊎◌, List, [], ◌∷◌, ◌++◌, length, get_or, sum_by, refl, ap, inl, inr, suc-mul, arith}
-use Rattle.std.proofs.lemmas.List.{get_or_append_left, get_or_push, length_push}
-use Rattle.std.proofs.lemmas.List.Sums.{sum_by-cons}
+use Rattle.std.proofs.Common.{◌≡◌, ℕ, zero, suc, ◌+◌, ◌*◌, ◌<◌, ◌≤◌, ◌⊎◌, List, [], ◌∷◌, ◌++◌, length, get_or, sum_by, refl, inl, inr, suc-mul, arith}
+use Rattle.std.proofs.lemmas.List.{get_or-set_other, get_or-set_same, get_or_append_left, get_or_push, length_push}
+use Rattle.std.proofs.lemmas.List.Sums.{sum_by-cons, sum_by-set}
 use Rattle.std.proofs.lemmas.Bool.{cases_eq}
 use Rattle.counting.specs.Rows.{amend}
 use Rattle.counting.specs.declared.row.Row.{Row}
-use Rattle.counting.proofs.Puts.{length_amend}
+use Rattle.counting.proofs.Puts.{amend_is, length_amend}
 
 module _ {A : Type 0} (d : A) where
   pub get_or_amend_same : (f : A → A) (xs : List A) (i : ℕ) → i < length xs → get_or (amend f xs i) i d ≡ f (get_or xs i d)
-  get_or_amend_same f [] i l = absurd (omega arith)
-  get_or_amend_same f (x ∷ xs) zero l = refl
-  get_or_amend_same f (x ∷ xs) (suc i) l = get_or_amend_same f xs i (omega arith)
+  get_or_amend_same f xs i l = rw (amend_is f xs i d) (get_or-set_same xs i (f (get_or xs i d)) d l)
 
   pub get_or_amend_other : (f : A → A) (xs : List A) (i j : ℕ) → (j ≡ i → ⊥) → get_or (amend f xs i) j d ≡ get_or xs j d
-  get_or_amend_other f [] i j ne = refl
-  get_or_amend_other f (x ∷ xs) zero zero ne = absurd (ne refl)
-  get_or_amend_other f (x ∷ xs) zero (suc j) ne = refl
-  get_or_amend_other f (x ∷ xs) (suc i) zero ne = refl
-  get_or_amend_other f (x ∷ xs) (suc i) (suc j) ne = get_or_amend_other f xs i j (λ e. ne (ap suc e))
+  get_or_amend_other f xs i j ne = rw (amend_is f xs i d) (get_or-set_other xs i j (f (get_or xs i d)) d ne)
 
   -- what holds of the changed element and of the others
   pub amend_each : (P : ℕ → A → Type 0) (f : A → A) (xs : List A) (i : ℕ) → i < length xs → P i (f (get_or xs i d))
@@ -46,10 +40,7 @@ total rs = sum_by (λ r. r.count) rs
 
 module _ {K : Type 0} where
   pub total_amend : (f : Row K → Row K) (d : Row K) (rs : List (Row K)) (i : ℕ) → i < length rs → (f (get_or rs i d)).count ≡ (get_or rs i d).count + 1 → total (amend f rs i) ≡ total rs + 1
-  total_amend f d [] i l h = absurd (omega arith)
-  total_amend f d (r ∷ rs) zero l h = omega (arith, sum_by-cons (λ q. q.count) (f r) rs, sum_by-cons (λ q. q.count) r rs)
-  total_amend f d (r ∷ rs) (suc i) l h =
-      omega (arith, sum_by-cons (λ q. q.count) r (amend f rs i), sum_by-cons (λ q. q.count) r rs, total_amend f d rs i (omega arith) h)
+  total_amend f d rs i l h = rw (amend_is f rs i d) (omega (arith, h, sum_by-set (λ r. r.count) rs i (f (get_or rs i d)) d l))
 
   -- rows that each count at least x
   pub total_ge : (x : ℕ) (d : Row K) (rs : List (Row K)) → ((i : ℕ) → i < length rs → x ≤ (get_or rs i d).count) → length rs * x ≤ total rs

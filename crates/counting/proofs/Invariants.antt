@@ -17,19 +17,24 @@ module _ {K : Type 0} (m : K → List ℕ) (n : ℕ) (d : Row K) where
   abbrev pub Out : List (Row K) → K → Type 0
   Out rs k = (i : ℕ) → i < length rs → m (get_or rs i d).key ≡ m k → ⊥
 
+  -- a row's count is its key's times at least, and those with the error at most; x lies between error and count
+  pub record Fair (w : List K) (x : ℕ) (r : Row K) : Type 0 where
+    pub low : times m r.key w ≤ r.count
+    pub high : r.count ≤ times m r.key w + r.error
+    pub error : r.error ≤ x
+    pub count : x ≤ r.count
+
   pub record Invariant (rs : List (Row K)) (w : List K) : Type 0 where
     pub short : length rs ≤ n
     pub few : length w ≤ 2048
     pub sums : total rs ≡ length w
     pub apart : (i j : ℕ) → i < length rs → j < length rs → m (get_or rs i d).key ≡ m (get_or rs j d).key → i ≡ j
-    pub low : (i : ℕ) → i < length rs → times m (get_or rs i d).key w ≤ (get_or rs i d).count
-    pub high : (i : ℕ) → i < length rs → (get_or rs i d).count ≤ times m (get_or rs i d).key w + (get_or rs i d).error
-    -- no error and no unlisted key's times pass any count
-    pub floor : (i j : ℕ) → i < length rs → j < length rs → (get_or rs i d).error ≤ (get_or rs j d).count
-    pub out : (k : K) → Out rs k → (j : ℕ) → j < length rs → times m k w ≤ (get_or rs j d).count
+    -- a bound that no count is below, and that no error and no unlisted key's times pass
+    pub bound : ℕ
+    pub fair : (i : ℕ) → i < length rs → Fair w bound (get_or rs i d)
+    pub out : (k : K) → Out rs k → times m k w ≤ bound
     -- with a row unused, there is neither an error nor an unlisted key
-    pub exact : length rs < n → (i : ℕ) → i < length rs → (get_or rs i d).error ≡ 0
-    pub none : length rs < n → (k : K) → Out rs k → times m k w ≡ 0
+    pub unused : length rs < n → bound ≡ 0
 
   pub start : Invariant [] []
   start = record {
@@ -37,32 +42,27 @@ module _ {K : Type 0} (m : K → List ℕ) (n : ℕ) (d : Row K) where
     few = omega arith;
     sums = refl;
     apart = λ i j li lj e. absurd (omega arith);
-    low = λ i li. absurd (omega arith);
-    high = λ i li. absurd (omega arith);
-    floor = λ i j li lj. absurd (omega arith);
-    out = λ k h j lj. absurd (omega arith);
-    exact = λ _ i li. absurd (omega arith);
-    none = λ _ k h. refl;
+    bound = 0;
+    fair = λ i li. absurd (omega arith);
+    out = λ k h. omega arith;
+    unused = λ _. refl;
   }
 
-  -- a number that no count is below, and that is 0 while a row is unused
-  spread : (rs : List (Row K)) (w : List K) (x : ℕ) → Invariant rs w → (length rs < n → x ≡ 0) → ((j : ℕ) → j < length rs → x ≤ (get_or rs j d).count) → n * x ≤ length w
-  spread rs w x v z h = go (cases_lt (length rs) n)
+  spread : (rs : List (Row K)) (w : List K) (v : Invariant rs w) (x : ℕ) → x ≤ v.bound → n * x ≤ length w
+  spread rs w v x h = go (cases_lt (length rs) n)
     where
       go : (length rs < n) ⊎ (n ≤ length rs) → n * x ≤ length w
-      go (inl r) = rw (z r) (omega (arith, mul-zero n))
+      go (inl r) = let z : x ≡ 0 = omega (arith, v.unused r) in rw z (omega (arith, mul-zero n))
       go (inr f) =
           let e : n ≡ length rs = omega (arith, v.short) in
-          rw e (omega (arith, total_ge x d rs h, v.sums))
+          rw e (omega (arith, total_ge x d rs (λ i l. omega (arith, (v.fair i l).count)), v.sums))
 
   pub lawful : (rs : List (Row K)) (w : List K) → Invariant rs w → Lawful m n rs w
   lawful rs w v = record {
-    at_least = All-from_get_or _ rs d (λ i l. v.low i l);
-    at_most = All-from_get_or _ rs d (λ i l. v.high i l);
-    errors = All-from_get_or _ rs d (λ i l. spread rs w (get_or rs i d).error v (λ r. v.exact r i l) (λ j lj. v.floor i j l lj));
-    unlisted = λ k u.
-        let o : Out rs k = λ i l. All-get_or (λ r. m r.key ≡ m k → ⊥) rs i d l u in
-        spread rs w (times m k w) v (λ r. v.none r k o) (λ j lj. v.out k o j lj);
+    at_least = All-from_get_or _ rs d (λ i l. (v.fair i l).low);
+    at_most = All-from_get_or _ rs d (λ i l. (v.fair i l).high);
+    errors = All-from_get_or _ rs d (λ i l. spread rs w v (get_or rs i d).error (v.fair i l).error);
+    unlisted = λ k u. spread rs w v (times m k w) (v.out k (λ i l. All-get_or (λ r. m r.key ≡ m k → ⊥) rs i d l u));
     sums = v.sums;
     small = All-from_get_or _ rs d (λ i l. omega (arith, get_or-le-sum_by (λ r. r.count) rs i d l, v.sums, v.few));
   }
@@ -75,12 +75,12 @@ module _ {K : Type 0} (m : K → List ℕ) (n : ℕ) (d : Row K) where
     few = v.few;
     sums = total_same f hc rs i ∙ v.sums;
     apart = λ a b la lb e. v.apart a b (rw len at la) (rw len at lb) (ap m (sym (key a)) ∙ e ∙ ap m (key b));
-    low = λ j lj. rw (key j, count j) (v.low j (rw len at lj));
-    high = λ j lj. rw (key j, count j, error j) (v.high j (rw len at lj));
-    floor = λ a b la lb. rw (error a, count b) (v.floor a b (rw len at la) (rw len at lb));
-    out = λ k o j lj. rw (count j) (v.out k (outs k o) j (rw len at lj));
-    exact = λ s j lj. error j ∙ v.exact (rw len at s) j (rw len at lj);
-    none = λ s k o. v.none (rw len at s) k (outs k o);
+    bound = v.bound;
+    fair = λ j lj.
+        let u = v.fair j (rw len at lj) in
+        record { low = rw (key j, count j) u.low; high = rw (key j, count j, error j) u.high; error = rw (error j) u.error; count = rw (count j) u.count };
+    out = λ k o. v.out k (λ j lj e. o j (rw len lj) (ap m (key j) ∙ e));
+    unused = λ s. v.unused (rw len at s);
   }
     where
       len : length (amend f rs i) ≡ length rs
@@ -94,9 +94,6 @@ module _ {K : Type 0} (m : K → List ℕ) (n : ℕ) (d : Row K) where
 
       error : (j : ℕ) → (get_or (amend f rs i) j d).error ≡ (get_or rs j d).error
       error j = amend_part f (λ r. r.error) he rs i j d
-
-      outs : (k : K) → Out (amend f rs i) k → Out rs k
-      outs k o j lj e = o j (rw len lj) (ap m (key j) ∙ e)
 
   pub credit_keeps : (rs : List (Row K)) (w : List K) → Invariant rs w → (k : K) (distance : ℕ) → Invariant (credit m rs k distance) w
   unfolding credit

@@ -8,3 +8,4 @@ pub mod Puts
 pub mod Runs
 pub mod Steps
 pub mod Windows
+pub mod Writes

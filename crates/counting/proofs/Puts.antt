@@ -1,27 +1,31 @@
 -- A write of one row: at its place in all the rows, and among the used ones.
-use Rattle.std.proofs.Common.{◌≡◌, ℕ, zero, suc, ◌+◌, ◌<◌, ◌≤◌, min, max, ◌⊎◌, List, [], ◌∷◌, ◌++◌, length, get_or, take, drop, set, sym, refl, ap, ◌∙◌, inl, inr, arith, length-append, length-drop, take_all}
-use lib.Seq.{take-length}
-use Rattle.std.proofs.lemmas.Bool.{cases_lt}
+use Rattle.std.proofs.Common.{◌≡◌, ℕ, zero, suc, ◌+◌, ◌<◌, ◌≤◌, max, List, [], ◌∷◌, ◌++◌, length, get_or, take, drop, set, sym, refl, ap, ◌∙◌, arith, length-append, length-drop}
+use lib.Seq.{set_split}
 use Rattle.counting.specs.Rows.{amend, put}
 use Rattle.counting.specs.Tables.{over}
 
 module _ {A : Type 0} where
+  -- d is any element
+  pub amend_is : (f : A → A) (xs : List A) (i : ℕ) (d : A) → amend f xs i ≡ set xs i (f (get_or xs i d))
+  amend_is f [] i d = refl
+  amend_is f (x ∷ xs) zero d = refl
+  amend_is f (x ∷ xs) (suc i) d = ap (λ ys. x ∷ ys) (amend_is f xs i d)
+
   pub length_amend : (f : A → A) (xs : List A) (i : ℕ) → length (amend f xs i) ≡ length xs
   length_amend f [] i = refl
   length_amend f (x ∷ xs) zero = refl
   length_amend f (x ∷ xs) (suc i) = ap suc (length_amend f xs i)
 
   pub put_amend : (f : A → A) (xs : List A) (i : ℕ) (d : A) → i < length xs → put xs i (f (get_or xs i d)) ≡ amend f xs i
-  put_amend f [] i d l = absurd (omega arith)
-  put_amend f (x ∷ xs) zero d l = refl
-  put_amend f (x ∷ xs) (suc i) d l = ap (λ ys. x ∷ ys) (put_amend f xs i d (omega arith))
+  put_amend f xs i d l = sym (amend_is f xs i d ∙ set_split xs i (f (get_or xs i d)) l)
 
   pub put_end : (xs : List A) (y : A) → put xs (length xs) y ≡ xs ++ y ∷ []
   put_end [] y = refl
   put_end (x ∷ xs) y = ap (λ ys. x ∷ ys) (put_end xs y)
 
   pub length_put : (xs : List A) (i : ℕ) (y : A) → i ≤ length xs → length (put xs i y) ≡ max (length xs) (i + 1)
-  length_put [] i y l = omega arith
+  length_put [] zero y l = omega arith
+  length_put [] (suc i) y l = absurd (omega arith)
   length_put (x ∷ xs) zero y l = omega arith
   length_put (x ∷ xs) (suc i) y l = let e = length_put xs i y (omega arith) in omega arith
 
@@ -37,13 +41,6 @@ module _ {A : Type 0} where
   over_put (x ∷ xs) zero (suc i) y l h = absurd (omega arith)
   over_put (x ∷ xs) (suc u) zero y l h = ap (λ ys. y ∷ ys) (sym (over_take xs u))
   over_put (x ∷ xs) (suc u) (suc i) y l h = ap (λ ys. x ∷ ys) (over_put xs u i y (omega arith) (omega arith))
-
-  pub take_min : (u : ℕ) (xs : List A) → take (min u (length xs)) xs ≡ take u xs
-  take_min u xs = go (cases_lt u (length xs))
-    where
-      go : (u < length xs) ⊎ (length xs ≤ u) → take (min u (length xs)) xs ≡ take u xs
-      go (inl l) = let e : min u (length xs) ≡ u = omega arith in rw e
-      go (inr h) = let e : min u (length xs) ≡ length xs = omega arith in rw (e, take_all u xs h, take-length xs)
 
   pub length_over : (new all : List A) → length new ≤ length all → length (over new all) ≡ length all
   length_over new all h = length-append new (drop (length new) all) ∙ (let e = length-drop (length new) all in omega arith)

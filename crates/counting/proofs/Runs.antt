@@ -47,13 +47,13 @@ module _ {K : Type 0} (m : K → List ℕ) (n : ℕ) (d : Row K) where
   all_sound t w [] v = v
   all_sound t w (c ∷ cs) v = all_sound (after_count m t c.key c.number) (accept n w c) cs (count_sound t w c v)
 
--- what holds of the rows that countings of an empty table left
-pub record Left {K : Type 0} (m : K → List ℕ) (all : List (Row K)) (cs : List (Counting K)) : Type 0 where
-  pub counted : (after_all m all cs).counted ≡ length (window (length all) cs)
-  pub lawful : Lawful m (length all) (used_rows (after_all m all cs)) (window (length all) cs)
-  pub uncredited : Uncredited (used_rows (after_all m all cs))
+-- what holds of the state that countings of an empty table left
+pub record Left {K : Type 0} (m : K → List ℕ) (all : List (Row K)) (cs : List (Counting K)) (t : State K) : Type 0 where
+  pub counted : t.counted ≡ length (window (length all) cs)
+  pub lawful : Lawful m (length all) (used_rows t) (window (length all) cs)
+  pub uncredited : Uncredited (used_rows t)
 
-pub all_left : {K : Type 0} (m : K → List ℕ) (all : List (Row K)) (cs : List (Counting K)) → Left m all cs
+pub all_left : {K : Type 0} (m : K → List ℕ) (all : List (Row K)) (cs : List (Counting K)) → Left m all cs (after_all m all cs)
 all_left m all [] = record {
   counted = refl;
   lawful = record { at_least = tt; at_most = tt; errors = tt; unlisted = λ k u. omega (arith, mul-zero (length all)); sums = refl; small = tt };
@@ -63,3 +63,6 @@ all_left m all (c ∷ cs) =
     let d = fresh c.key c.number in
     let v = all_sound m (length all) d (emptied all) [] (c ∷ cs) (record { room = refl; counted = refl; rows = start m (length all) d; bare = tt }) in
     record { counted = v.counted; lawful = lawful m (length all) d _ _ v.rows; uncredited = v.bare }
+
+pub left : {K : Type 0} (m : K → List ℕ) (all : List (Row K)) (cs : List (Counting K)) (t : State K) → t ≡ after_all m all cs → Left m all cs t
+left m all cs t e = rw e (all_left m all cs)

@@ -6,7 +6,7 @@
 --   Unlisted     no row has the key
 --   Lawful       what the rows of a table say of its window
 --   Uncredited   no row has a repeat
-use Rattle.std.specs.Prelude.{◌≡◌, ℕ, suc, ◌+◌, ◌*◌, ◌≤◌, cond, List, [], ◌∷◌, length, fold, sum_by, ◌≢◌}
+use Rattle.std.specs.Prelude.{◌≡◌, ℕ, ◌+◌, ◌*◌, ◌≤◌, cond, List, [], ◌∷◌, length, fold, count_by, sum_by, ◌≢◌}
 use Rattle.std.specs.List.{AllByRecursion}
 use Rattle.keys.specs.Meanings.{alike}
 use Rattle.counting.specs.Rule.{refuses}
@@ -25,8 +25,7 @@ abbrev pub after_all : {K : Type 0} → (K → List ℕ) → List (Row K) → Li
 after_all meaning all cs = fold (λ t c. after_count meaning t c.key c.number) (emptied all) cs
 
 abbrev pub times : {K : Type 0} → (K → List ℕ) → K → List K → ℕ
-times meaning k [] = 0
-times meaning k (x ∷ w) = cond (alike (meaning x) (meaning k)) (suc (times meaning k w)) (times meaning k w)
+times meaning k w = count_by (λ x. alike (meaning x) (meaning k)) w
 
 abbrev pub Unlisted : {K : Type 0} → (K → List ℕ) → List (Row K) → K → Type 0
 Unlisted meaning rs k = AllByRecursion (λ r. meaning r.key ≢ meaning k) rs

@@ -11,15 +11,18 @@
 --   fewer      which of two rows has the lesser count
 --   earlier    which of two rows entered earlier
 --   sooner     which of two rows gives way first
+--   has_key    whether it is the row of a key
 --   found      a key's row with its place
 --   row_in     a key's row
 --   looked     a key's count with its error
-use Rattle.std.specs.Prelude.{ℕ, zero, suc, ◌+◌, min, Bool, cond, List, [], ◌∷◌, Some, None, Option, nat_lt}
+use Rattle.std.specs.Prelude.{ℕ, zero, suc, ◌+◌, min, Bool, List, [], ◌∷◌, ◌++◌, take, drop, Option, nat_lt}
+use Rattle.std.specs.List.{enumerate_from, find}
+use Rattle.std.specs.Option.{option_map}
 use Rattle.keys.specs.Meanings.{alike}
 use Rattle.order.specs.Then.{first_then}
 use Rattle.counting.specs.declared.row.Row.{Row}
 
--- nothing changes past the end
+-- std's `slice_set` by a function; nothing changes past the end
 abbrev pub amend : {A : Type 0} → (A → A) → List A → ℕ → List A
 amend f [] i = []
 amend f (x ∷ xs) zero = f x ∷ xs
@@ -27,9 +30,7 @@ amend f (x ∷ xs) (suc i) = x ∷ amend f xs i
 
 -- past the end it is added there
 abbrev pub put : {A : Type 0} → List A → ℕ → A → List A
-put [] i y = y ∷ []
-put (x ∷ xs) zero y = y ∷ xs
-put (x ∷ xs) (suc i) y = x ∷ put xs i y
+put xs i y = take i xs ++ y ∷ drop (suc i) xs
 
 -- the sum, but at most the largest number of 32 bits, which no lawful table comes to
 abbrev pub plus : ℕ → ℕ → ℕ
@@ -86,28 +87,18 @@ earlier x y = nat_lt x.entered y.entered
 abbrev pub sooner : {K : Type 0} → Row K → Row K → Bool
 sooner = first_then fewer earlier
 
--- one place on
-abbrev pub later : {A : Type 0} → Option (ℕ × A) → Option (ℕ × A)
-later None = None
-later (Some p) = Some (suc p.0, p.1)
+-- by the keys' meanings
+abbrev pub has_key : {K : Type 0} → (K → List ℕ) → K → Row K → Bool
+has_key meaning k r = alike (meaning r.key) (meaning k)
 
--- by the keys' meanings; the first such row, from place 0
+-- the first such row, from place 0
 abbrev pub found : {K : Type 0} → (K → List ℕ) → List (Row K) → K → Option (ℕ × Row K)
-found meaning [] k = None
-found meaning (r ∷ rs) k = cond (alike (meaning r.key) (meaning k)) (Some (0, r)) (later (found meaning rs k))
+found meaning rs k = find (λ p. has_key meaning k p.1) (enumerate_from 0 rs)
 
--- what stands at the place
-abbrev pub without_place : {A : Type 0} → Option (ℕ × A) → Option A
-without_place None = None
-without_place (Some p) = Some p.1
-
+-- without its place
 abbrev pub row_in : {K : Type 0} → (K → List ℕ) → List (Row K) → K → Option (Row K)
-row_in meaning rs k = without_place (found meaning rs k)
+row_in meaning rs k = find (has_key meaning k) rs
 
 -- the two numbers that a look answers
-abbrev pub count_and_error : {K : Type 0} → Option (Row K) → Option (ℕ × ℕ)
-count_and_error None = None
-count_and_error (Some r) = Some (r.count, r.error)
-
 abbrev pub looked : {K : Type 0} → (K → List ℕ) → List (Row K) → K → Option (ℕ × ℕ)
-looked meaning rs k = count_and_error (row_in meaning rs k)
+looked meaning rs k = option_map (λ r. (r.count, r.error)) (row_in meaning rs k)

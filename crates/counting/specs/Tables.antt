@@ -9,6 +9,7 @@
 --   answer         what a counting answers
 --   numbered       the code's answer in these words: a refusal is its number
 use Rattle.std.specs.Prelude.{ℕ, ◌+◌, cond, List, ◌++◌, length, take, drop, Ok, Err, Result}
+use Rattle.std.specs.Result.{result_map_both}
 use Rattle.counting.specs.Rule.{counting, credit, refuses}
 use Rattle.counting.specs.declared.row.Row.{Row}
 use Rattle.counting.specs.declared.table.NotCounted.{NotCounted}
@@ -52,5 +53,4 @@ abbrev pub answer : {K : Type 0} → State K → Result Unit ℕ
 answer t = cond (refuses (length t.rows) t.counted) (Err 4) (Ok tt)
 
 abbrev pub numbered : Result Unit NotCounted → Result Unit ℕ
-numbered (Ok x) = Ok x
-numbered (Err e) = Err 4
+numbered r = result_map_both (λ x. x) (λ e. 4) r

@@ -1,13 +1,12 @@
 ghost use Rattle.std.specs.Prelude.{◌≡◌};
-ghost use Rattle.counting.specs.Rows.{credited, entering, raised, replaced, sooner};
-ghost use Rattle.std.proofs.Common.{rules};
+ghost use Rattle.counting.specs.Rows.{credited, entering, has_key, raised, replaced};
 
-use order::Order;
-use order::least::Ranked;
+use crate::count_all::Counting;
+use keys::Key;
 
 /// A row of a counting table. Repeats and distances are those credited to a hint set; in a
 /// row of another kind of key they stay 0.
-#[derive(Clone, Copy)]
+#[derive(Clone, Copy, Default)]
 pub struct Row<K> {
     pub key: K,
     pub count: u32,
@@ -17,45 +16,29 @@ pub struct Row<K> {
     pub distances: u32,
 }
 
-/// The order in which rows give way: the least count, then the earliest entered.
-impl<K> Order for Row<K> {
-    ghost before = { sooner };
-
-    ghost ranks = { Prim.search rules };
-
-    fn precedes(&self, other: &Row<K>) -> bool {
-        self.count < other.count || (self.count == other.count && self.entered < other.entered)
-    }
-}
-
-/// Each row is its own rank.
-impl<'a, K: Copy> Ranked<Row<K>> for &'a [Row<K>] {
-    ghost ranked = { λ rows. rows.now };
-
-    fn many(&self) -> usize {
-        self.len()
-    }
-
-    fn rank(&self, place: usize) -> Row<K> {
-        let rows = *self;
-        rows[place]
-    }
-}
-
 impl<K> Row<K> {
-    /// The row of a key that had none, entered at a request number. Its count may be too high
-    /// by the error.
-    pub(crate) fn new(key: K, number: u32, error: u32) -> Row<K>
-        ensures { result ≡ entering key number error }
+    /// The row of a key that had none, by its first counting. Its count may be too high by the
+    /// error.
+    pub(crate) fn new(first: Counting<K>, error: u32) -> Row<K>
+        ensures { result ≡ entering first.key first.number error }
     {
         Row {
-            key,
+            key: first.key,
             count: error.saturating_add(1),
             error,
-            entered: number,
+            entered: first.number,
             repeats: 0,
             distances: 0,
         }
+    }
+}
+
+impl<K: Key> Row<K> {
+    /// Whether it is the row of a key.
+    pub(crate) fn has_key(&self, key: &K) -> bool
+        ensures { result ≡ has_key K.meaning key.now self.now }
+    {
+        self.key.same(key)
     }
 }
 
@@ -71,10 +54,10 @@ impl<K: Copy> Row<K> {
     }
 
     /// The row of a new key in the place of this one.
-    pub(crate) fn replaced(self, key: K, number: u32) -> Row<K>
-        ensures { result ≡ replaced key number self }
+    pub(crate) fn replaced(self, first: Counting<K>) -> Row<K>
+        ensures { result ≡ replaced first.key first.number self }
     {
-        Row::new(key, number, self.count)
+        Row::new(first, self.count)
     }
 
     /// The row with one more repeat, at a distance.

@@ -1,32 +1,50 @@
-ghost use Rattle.std.specs.Prelude.{◌≡◌, min, length};
-ghost use Rattle.counting.specs.Rows.{looked, row_in};
-ghost use Rattle.counting.specs.Tables.{emptied, state_of, used_rows};
+ghost use Rattle.std.specs.Prelude.{◌≡◌, ◌≤◌, length};
+ghost use Rattle.lent.specs.Lent.{SameSlice};
 
-use crate::find::find;
+use crate::find::row_of;
 use crate::row::Row;
 use keys::Key;
+use std::fmt;
 
-pub mod counting;
-pub mod crediting;
+mod counting;
+mod crediting;
 
-/// A counting table over handed rows. The first `used` of them are in use, and `counted`
-/// countings were accepted since it was emptied. It serves whatever the memory holds.
+/// A counting table over handed rows: memory is lent, so the rows in use are its first `used`
+/// ones. At most 2,048 countings were accepted since it was emptied. It serves whatever the
+/// memory holds.
 #[derive(Drop)]
 pub struct Table<'a, K> {
     rows: &'a mut [Row<K>],
     used: usize,
     counted: u32,
+    ghost within: { used ≤ length rows.now },
+    ghost few: { counted ≤ 2048 },
 }
 
 /// Refusal 4: the table has no rows, or 2,048 countings since it was emptied.
 #[derive(Clone, Copy, PartialEq, Eq, Debug)]
 pub struct NotCounted;
 
+impl fmt::Display for NotCounted {
+    ghost use Rattle.std.specs.Prelude.{Some, codes};
+
+    ghost output = { λ _. Some (codes "the table has no row, or counted 2048 times") };
+
+    fn fmt<W: fmt::Write>(&self, f: &mut fmt::Formatter<W>) -> fmt::Result {
+        f.write_str("the table has no row, or counted 2048 times")
+    }
+}
+
+impl std::error::Error for NotCounted {}
+
 impl<'a, K: Key + Copy> Table<'a, K> {
+    ghost use Rattle.counting.specs.Rows.{looked, row_in};
+    ghost use Rattle.counting.specs.Tables.{emptied, state_of, used_rows};
+
     /// An empty table; what the rows hold stays.
     pub fn new(rows: &'a mut [Row<K>]) -> Table<'a, K>
         ensures state { state_of result ≡ emptied rows.old }
-        ensures lent { result.rows.ghost_name ≡ rows.entry.ghost_name }
+        ensures slice { SameSlice rows.entry result.rows }
     {
         Table {
             rows,
@@ -38,8 +56,7 @@ impl<'a, K: Key + Copy> Table<'a, K> {
     /// Takes all rows out of use.
     pub fn empty(&mut self)
         ensures state { state_of self.new ≡ emptied self.old.rows.now }
-        ensures len { length self.new.rows.now ≡ length self.old.rows.now }
-        ensures lent { self.new.rows.ghost_name ≡ self.old.rows.ghost_name }
+        ensures slice { SameSlice self.old.rows self.new.rows }
     {
         self.used = 0;
         self.counted = 0;
@@ -52,37 +69,24 @@ impl<'a, K: Key + Copy> Table<'a, K> {
         self.counted
     }
 
-    /// How many rows are in use: no more than there are, whatever the table was made of.
-    fn many_used(&self) -> usize
-        ensures { result ≡ min self.now.used (length self.now.rows.now) }
-    {
-        self.used.min(self.rows.len())
-    }
-
     /// The rows in use.
     pub fn used_rows(&self) -> &[Row<K>]
         ensures { result.now ≡ used_rows (state_of self.now) }
     {
-        &self.rows[0..self.many_used()]
+        &self.rows[..self.used]
     }
 
     /// The key's row, if it has one.
     pub fn row_of(&self, key: K) -> Option<Row<K>>
-        ensures { result ≡ row_in K.Key.meaning (used_rows (state_of self.now)) key }
+        ensures { result ≡ row_in K.meaning (used_rows (state_of self.now)) key }
     {
-        match find(self.used_rows(), key) {
-            Some((_, row)) => Some(row),
-            None => None,
-        }
+        row_of(self.used_rows(), key)
     }
 
     /// The key's count and its error, if it has a row.
     pub fn lookup(&self, key: K) -> Option<(u32, u32)>
-        ensures { result ≡ looked K.Key.meaning (used_rows (state_of self.now)) key }
+        ensures { result ≡ looked K.meaning (used_rows (state_of self.now)) key }
     {
-        match self.row_of(key) {
-            Some(row) => Some((row.count, row.error)),
-            None => None,
-        }
+        self.row_of(key).map(|row| (row.count, row.error))
     }
 }

@@ -12,11 +12,11 @@ fn over(numerator: u64, denominator: u64) -> PriorityParts {
 }
 
 fn parts_of(made: Result<Priority, BadPriority>) -> Result<PriorityParts, BadPriority> {
-    Ok(made?.parts())
+    made.map(Priority::parts)
 }
 
 fn made(numerator: u64, denominator: u64) -> Result<PriorityParts, BadPriority> {
-    parts_of(Priority::new(over(numerator, denominator)))
+    parts_of(Priority::try_from(over(numerator, denominator)))
 }
 
 #[test]
@@ -30,28 +30,29 @@ fn parts_have_limits(rt: HostRuntime) {
 
 #[test]
 fn equal_fractions_are_not_greater(rt: HostRuntime) -> Result<(), Fail> {
-    let half = Priority::new(over(1, 2))?;
-    let again = Priority::new(over(2, 4))?;
+    let half = Priority::try_from(over(1, 2))?;
+    let again = Priority::try_from(over(2, 4))?;
     assert!(rt; !half.greater(again));
     assert!(rt; !again.greater(half));
     assert!(rt; half.greater(Priority::lowest()));
-    assert!(rt; Priority::new(over(4_194_304, 1))?.greater(Priority::new(over(4_194_303, 1))?));
+    assert!(rt;
+        Priority::try_from(over(4_194_304, 1))?.greater(Priority::try_from(over(4_194_303, 1))?)
+    );
+    Ok(())
+}
+
+#[test]
+fn fractions_are_equal_by_value(rt: HostRuntime) -> Result<(), Fail> {
+    let half = Priority::try_from(over(1, 2))?;
+    assert!(rt; half == Priority::try_from(over(2, 4))?);
+    assert!(rt; half > Priority::try_from(over(1, 3))?);
     Ok(())
 }
 
 /// A hint row by count, error, repeats and distances.
 fn row(count: u32, error: u32, repeats: u32, distances: u32) -> Row<HintNumbers> {
-    let key = HintNumbers {
-        client: 0,
-        count: 0,
-        first: 0,
-        second: 0,
-        third: 0,
-        fourth: 0,
-        fifth: 0,
-    };
     Row {
-        key,
+        key: HintNumbers::default(),
         count,
         error,
         entered: 1,

@@ -14,29 +14,17 @@ impl Key for HintNumbers {
 
     ghost injective = { Prim.search rules };
 
-    fn same(&self, other: &HintNumbers) -> bool {
-        self.client == other.client
-            && self.count == other.count
-            && self.first == other.first
-            && self.second == other.second
-            && self.third == other.third
-            && self.fourth == other.fourth
-            && self.fifth == other.fifth
+    fn same(&self, other: &Self) -> bool {
+        *self == *other
     }
 }
 
-/// Whether the keys of two hint sets are the same.
-fn same_keys(a: HintSet, b: HintSet) -> bool
-    ensures { Decides result (hint_meaning (numbers_of a) ≡ hint_meaning (numbers_of b)) }
-{
-    a.numbers().same(&b.numbers())
-}
-
-/// Whether two hint sets are the same, told by their keys: exactly when they say the same,
-/// and then all their numbers are the same.
+/// Whether two hint sets are the same: exactly when they say the same, and then their keys,
+/// which are all their numbers, are the same. It is `==`, which promises neither by itself.
+#[tactic(auto, using(std::proofs::lemmas::Bool::Decides::nat_tests, crate::proofs::Says::same_numbers))]
 pub fn same_hints(a: HintSet, b: HintSet) -> bool
     ensures decides { Decides result (hint_set_meaning a ≡ hint_set_meaning b) }
     ensures numbers { hint_set_meaning a ≡ hint_set_meaning b → numbers_of a ≡ numbers_of b }
 {
-    same_keys(a, b)
+    a == b
 }

@@ -7,6 +7,7 @@ pub mod hints;
 pub mod pages;
 
 /// A kind of key. Each key has a meaning, and no two keys have the same one.
+// `same` has no default body: one by `==` would need a further law, more than the line that each kind has.
 pub trait Key {
     ghost meaning: { Self → List ℕ };
 

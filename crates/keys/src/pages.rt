@@ -9,7 +9,7 @@ impl Key for u32 {
 
     ghost injective = { Prim.search rules };
 
-    fn same(&self, other: &u32) -> bool {
+    fn same(&self, other: &Self) -> bool {
         *self == *other
     }
 }

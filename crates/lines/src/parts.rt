@@ -20,6 +20,25 @@ impl fmt::Display for Dash {
     }
 }
 
+/// Numbers with commas between them, or `-` for none.
+#[derive(Clone, Copy)]
+struct Listed<'a>(&'a [u16]);
+
+impl fmt::Display for Listed<'_> {
+    ghost output = { λ l. Some (listed l.0.now) };
+
+    fn fmt<W: fmt::Write>(&self, f: &mut fmt::Formatter<W>) -> fmt::Result {
+        let [first, rest @ ..] = self.0 else {
+            return write!(f, "-");
+        };
+        write!(f, "{first}")?;
+        for number in rest {
+            write!(f, ",{number}")?;
+        }
+        Ok(())
+    }
+}
+
 /// The values of a hint set, by its plain numbers, with commas between them, or `-` for none.
 #[derive(Clone, Copy)]
 pub struct Values(pub HintNumbers);
@@ -28,18 +47,8 @@ impl fmt::Display for Values {
     ghost output = { λ v. Some (listed (says v.0).values) };
 
     fn fmt<W: fmt::Write>(&self, f: &mut fmt::Formatter<W>) -> fmt::Result {
-        let n = self.0;
-        match n.count {
-            0 => write!(f, "-"),
-            1 => write!(f, "{}", n.first),
-            2 => write!(f, "{},{}", n.first, n.second),
-            3 => write!(f, "{},{},{}", n.first, n.second, n.third),
-            4 => write!(f, "{},{},{},{}", n.first, n.second, n.third, n.fourth),
-            _ => write!(
-                f,
-                "{},{},{},{},{}",
-                n.first, n.second, n.third, n.fourth, n.fifth
-            ),
-        }
+        let values = self.0.five_values();
+        let count = (self.0.count as usize).min(values.len());
+        write!(f, "{}", Listed(&values[..count]))
     }
 }

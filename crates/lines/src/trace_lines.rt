@@ -1,11 +1,14 @@
-ghost use Rattle.std.specs.Prelude.{Some};
-ghost use Rattle.lines.specs.TraceLines.{end_line, fault_line, item_line, size_lines};
+ghost use Rattle.std.specs.Prelude.{◌≡◌, Some, true, is_ok};
+ghost use Rattle.std.specs.Result.{result_map_both};
+ghost use Rattle.values.specs.HintSets.{refused};
+ghost use Rattle.trace.specs.Items.{Hinted, request};
+ghost use Rattle.lines.specs.TraceLines.{end_line, fault_line, item_line, line_of, said, size_lines};
 
 use crate::parts::{Dash, Values};
 use std::fmt;
 use trace::fault::Fault;
-use trace::item::Call;
-use values::hint_set::HintSet;
+use trace::item::{Call, Item};
+use values::hint_set::{BadHintSet, HintSet};
 use values::size_numbers::SizeNumbers;
 
 /// The five sizes of a trace, a line each.
@@ -25,7 +28,7 @@ impl fmt::Display for SizeLines {
     }
 }
 
-/// An item of a trace.
+/// What a line says of an item of a trace; the trace itself need not be at hand then.
 #[derive(Clone, Copy)]
 pub struct ItemLine {
     pub place: usize,
@@ -34,21 +37,37 @@ pub struct ItemLine {
     pub hints: HintSet,
 }
 
+/// The line of an item, or the refusal of its hints. An item that a reader gave is not refused.
+impl TryFrom<Item<'_>> for ItemLine {
+    type Error = BadHintSet;
+
+    ghost try_from_gives = { λ item line. (result_map_both said refused line ≡ line_of item) × (Hinted (request item) → is_ok line ≡ true) };
+
+    fn try_from(item: Item<'_>) -> Result<ItemLine, BadHintSet> {
+        Ok(ItemLine {
+            place: item.place,
+            call: item.call,
+            page: item.page,
+            hints: item.hint_set()?,
+        })
+    }
+}
+
 impl fmt::Display for ItemLine {
     ghost output = { λ l. Some (item_line l) };
 
     fn fmt<W: fmt::Write>(&self, f: &mut fmt::Formatter<W>) -> fmt::Result {
         let (letter, fill) = match self.call {
-            Call::Read => ("r", Dash(None)),
-            Call::Write(byte) => ("w", Dash(Some(byte as u32))),
+            Call::Read => ("r", None),
+            Call::Write(byte) => ("w", Some(byte.into())),
         };
         let hints = self.hints.numbers();
-        let client = hints.client;
         let values = Values(hints);
+        let fill = Dash(fill);
         write!(
             f,
-            "{} {letter} {} {client} {values} {fill}",
-            self.place, self.page
+            "{} {letter} {} {} {values} {fill}",
+            self.place, self.page, hints.client
         )
     }
 }

@@ -1,2 +1,3 @@
 pub mod Leasts
+pub mod Orders
 pub mod Thens

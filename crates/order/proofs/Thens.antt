@@ -1,12 +1,8 @@
 -- One total order after another is a total order.
 use Rattle.std.proofs.Common.{◌≡◌, Bool, true, false, not, ◌&&◌, ◌||◌, refl}
 use Rattle.std.specs.Cmp.{IsStrictWeakOrder}
-use Rattle.std.proofs.lemmas.Bool.{both_ways}
+use Rattle.std.proofs.lemmas.Bool.{both_ways, or_parts}
 use Rattle.order.specs.Then.{first_then}
-
-pub or_false : (x y : Bool) → (x || y) ≡ false → (x ≡ false) × (y ≡ false)
-or_false true y h = absurd (both_ways true h refl)
-or_false false y h = (refl, h)
 
 -- a, b: which of two comes before by the first order; c, d: by the second
 one_way_then : (a b c d : Bool) → (a ≡ true → b ≡ false) → (c ≡ true → d ≡ false) → (a || (not b && c)) ≡ true → (b || (not a && d)) ≡ false
@@ -31,8 +27,8 @@ module _ {A : Type 0} (first second : A → A → Bool) (o : IsStrictWeakOrder f
     where
       chain : (x y z : A) → first_then first second x y ≡ false → first_then first second y z ≡ false → first_then first second x z ≡ false
       chain x y z h k =
-          let a = or_false (first x y) (not (first y x) && second x y) h in
-          let b = or_false (first y z) (not (first z y) && second y z) k in
+          let a = or_parts (first x y) (not (first y x) && second x y) h in
+          let b = or_parts (first y z) (not (first z y) && second y z) k in
           join_false (first x z) (first z x) (second x z) (o.chain x y z a.0 b.0)
           (λ e. p.chain x y z
           (second_false (first y x) (second x y) a.1 (o.chain y z x b.0 e))

@@ -4,7 +4,7 @@
 --   row_parts   the parts of the priority that the row gives
 use Rattle.std.specs.Prelude.{ℕ, ◌-◌, ◌*◌, cond, nat_le}
 use Rattle.counting.specs.declared.row.Row.{Row}
-use Rattle.priority.specs.Priorities.{lowest}
+use Rattle.priority.specs.Parts.{lowest}
 use Rattle.priority.specs.declared.priority_parts.PriorityParts.{PriorityParts}
 
 -- the count less the error, and 0 where the error is greater

@@ -1,3 +1,4 @@
 pub mod Learned
+pub mod Parts
 pub mod Priorities
 pub mod Fractions

@@ -5,8 +5,8 @@
 --   latest_more                      entering one more keeps the latest
 --   latest_no_places                 of a queue with no places
 --   enter_keeps_latest               one call of enter
-use Rattle.std.proofs.Common.{◌≡◌, ℕ, ◌+◌, ◌-◌, ◌<◌, ◌≤◌, cond, List, [], ◌∷◌, ◌++◌, length, drop, sym, ap, ◌∙◌, ⊎_elim, arith}
-use Rattle.std.proofs.lemmas.List.{drop_all, drop-drop, drop-append-le, length-drop, length_push}
+use Rattle.std.proofs.Common.{◌≡◌, ℕ, ◌+◌, ◌-◌, ◌<◌, ◌≤◌, cond, List, [], ◌∷◌, ◌++◌, length, get_or, take, drop, sym, ap, ap₂, ◌∙◌, ⊎_elim, arith}
+use Rattle.std.proofs.lemmas.List.{drop_all, drop-drop, drop-append-le, length-drop, length_push, take_more}
 use Rattle.std.proofs.lemmas.Bool.{lt-ltb, le-ltb, cases_lt}
 use Rattle.queue.specs.Lists.{with_room, entered, latest}
 
@@ -48,14 +48,18 @@ more_full n xs x some full =
 pub latest_more : {A : Type 0} (n : ℕ) (xs : List A) (x : A) → 0 < n → entered n x (latest n xs) ≡ latest n (xs ++ x ∷ [])
 latest_more n xs x some = ⊎_elim (more_free n xs x) (more_full n xs x some) (cases_lt (length xs) n)
 
--- what `enter` promises of a queue that held the latest
-pub enter_keeps_latest : {A : Type 0} (n : ℕ) (xs : List A) (x : A) (before after : List A)
-    → before ≡ latest n xs
-    → (0 < n → after ≡ entered n x before)
-    → (n ≡ 0 → after ≡ [])
-    → after ≡ latest n (xs ++ x ∷ [])
-enter_keeps_latest n xs x before after e some none =
+-- one more call of `enter`, with the item at place i, on a queue of m places
+pub enter_keeps_latest : {A : Type 0} (n m i : ℕ) (items : List A) (x : A) (before after : List A)
+    → m ≡ n
+    → i < length items
+    → x ≡ get_or items i x
+    → before ≡ latest n (take i items)
+    → (0 < m → after ≡ entered m x before)
+    → (m ≡ 0 → after ≡ [])
+    → after ≡ latest n (take (i + 1) items)
+enter_keeps_latest n m i items x before after same b is e some none =
     ⊎_elim
-    (λ h. some h ∙ ap (entered n x) e ∙ latest_more n xs x h)
-    (λ h. none (omega arith) ∙ sym (latest_no_places n (xs ++ x ∷ []) (omega arith)))
+    (λ h. some (omega arith) ∙ ap₂ (λ k. entered k x) same e ∙ latest_more n (take i items) x h ∙ ap (λ y. latest n (take i items ++ y ∷ [])) is)
+    (λ h. none (omega arith) ∙ sym (latest_no_places n _ (omega arith)))
     (cases_lt 0 n)
+    ∙ ap (latest n) (sym (take_more items i x b))

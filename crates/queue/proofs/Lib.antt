@@ -1,3 +1,3 @@
 pub mod Rings
-pub mod Removals
 pub mod Enterings
+pub mod Removals

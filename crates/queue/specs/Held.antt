@@ -3,8 +3,7 @@
 --   held         its elements in the order of entering, the earliest first
 --   places       how many places it has
 --   next_place   the row that the next element is written to
---   Tidy         its numbers lie within its rows
-use Rattle.std.specs.Prelude.{ℕ, ◌≤◌, min, List, length}
+use Rattle.std.specs.Prelude.{ℕ, List, length}
 use Rattle.queue.specs.Rings.{in_order, next_row}
 use Rattle.queue.specs.declared.ring.Queue.{Queue}
 
@@ -15,8 +14,4 @@ abbrev pub places : {T : Type 0} → Queue T → ℕ
 places q = length q.rows.now
 
 abbrev pub next_place : {T : Type 0} → Queue T → ℕ
-next_place q = next_row (places q) (min q.head (places q)) (min q.len (places q))
-
-pub record Tidy {T : Type 0} (q : Queue T) : Type 0 where
-  pub first : q.head ≤ places q
-  pub many : q.len ≤ places q
+next_place q = next_row (places q) q.head q.len

@@ -2,9 +2,8 @@
 --
 --   with_room   a full queue without its earliest, any other as it is
 --   entered     a queue that one more has entered
---   without     a list without the element at a place
 --   latest      the last so many of a list
-use Rattle.std.specs.Prelude.{ℕ, suc, ◌-◌, cond, List, [], ◌∷◌, ◌++◌, length, take, drop, nat_lt}
+use Rattle.std.specs.Prelude.{ℕ, ◌-◌, cond, List, [], ◌∷◌, ◌++◌, length, drop, nat_lt}
 
 -- room is the number of places of the queue
 abbrev pub with_room : {A : Type 0} → ℕ → List A → List A
@@ -13,10 +12,6 @@ with_room room xs = cond (nat_lt (length xs) room) xs (drop 1 xs)
 -- it comes last in a queue of so many places, of at least one
 abbrev pub entered : {A : Type 0} → ℕ → A → List A → List A
 entered room x xs = with_room room xs ++ x ∷ []
-
--- the others keep their order, and a place past the end changes nothing
-abbrev pub without : {A : Type 0} → List A → ℕ → List A
-without xs place = take place xs ++ drop (suc place) xs
 
 -- all of them where there are fewer
 abbrev pub latest : {A : Type 0} → ℕ → List A → List A

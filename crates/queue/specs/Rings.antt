@@ -5,8 +5,7 @@
 --   next_row   the row that the next element is written to
 use Rattle.std.specs.Prelude.{ℕ, ◌+◌, ◌-◌, cond, List, ◌++◌, take, drop, nat_lt}
 
--- the rows, the first row of the elements, and how many elements there are; a first row past the
--- rows is row 0, and no more elements are there than rows
+-- the rows, the first row of the elements, and how many elements there are
 unfoldable pub in_order : {A : Type 0} → List A → ℕ → ℕ → List A
 in_order rows first many = take many (drop first rows ++ take first rows)
 

@@ -68,6 +68,18 @@ fn the_others_keep_their_order(rt: HostRuntime) {
 }
 
 #[test]
+fn a_search_finds_the_earliest_that_passes(rt: HostRuntime) {
+    let mut rows = [UNUSED; 3];
+    let mut queue = enter_all(&mut rows, &[1, 2, 5, 4, 5]);
+    assert_eq!(rt; queue.position(|x| *x == 5), Some(0));
+    assert_eq!(rt; queue.position(|x| *x < 5), Some(1));
+    assert_eq!(rt; queue.position(|x| *x == 2), None);
+    queue.remove(0);
+    queue.remove(1);
+    assert_eq!(rt; queue.position(|x| *x == 5), None);
+}
+
+#[test]
 fn a_place_that_was_given_up_is_used_again(rt: HostRuntime) {
     let mut rows = [UNUSED; 3];
     let mut queue = enter_all(&mut rows, &[1, 2, 3, 4, 5]);

@@ -1,29 +1,27 @@
 -- Hits and store reads are the accepted reads.
-use Rattle.std.proofs.Common.{◌≡◌, ℕ, ◌+◌, ◌%◌, ◌^◌, ◌<◌, ◌≤◌, List, ◌∷◌, length, Some, None, Option, refl, arith}
+use Rattle.std.proofs.Common.{◌≡◌, ℕ, ◌+◌, ◌%◌, ◌^◌, ◌<◌, ◌≤◌, List, ◌∷◌, length, Some, None, refl, arith}
 use Rattle.values.specs.declared.hint_numbers.HintNumbers.{HintNumbers}
 use Rattle.store.specs.declared.script.Access.{Access}
 use Rattle.store.specs.declared.script.Access.TheVariants.{Read, Write}
 use Rattle.store.specs.Meaning.{Meaning}
 use Rattle.store.specs.Laws.{accepted_reads}
-use Rattle.rules.specs.declared.request.Request.{Request}
-use Rattle.rules.specs.Refusals.{Refused}
 use Rattle.rules.specs.State.{State, opened}
 use Rattle.rules.specs.Choices.{Choice, decision}
-use Rattle.rules.specs.Requests.{after, choice, refusal, store_after}
+use Rattle.rules.specs.Requests.{after, choice, store_after}
 use Rattle.rules.specs.Histories.{Event, request_event}
 use Rattle.rules.specs.Accepted.{accepted, accesses, hit_of, hits}
 use Rattle.rules.specs.Laws.{Conservation, Every}
-use Rattle.rules.proofs.Along.{Keeps, along, granted}
+use Rattle.rules.proofs.Along.{Keeps, OnRequest, along, asks, granted}
 use Rattle.rules.proofs.Chosen.{Chosen, as_hit, as_free, as_evict, as_pass, chosen}
 
--- the tally, which was from at the start
-pub record Balance (from : ℕ) (h : List Event) (t : State) (m : Meaning) : Type 0 where
-  pub fits : m.tally < 2 ^ 32
-  pub even : (m.tally + hits (accepted h)) % 2 ^ 32 ≡ (from + accepted_reads (accesses h)) % 2 ^ 32
-  pub part : hits (accepted h) ≤ accepted_reads (accesses h)
+-- the tally, which was from at the start, after so many hits and reads, at the number of the latest request
+pub record Balance (from tally hit read number : ℕ) : Type 0 where
+  pub fits : tally < 2 ^ 32
+  pub even : (tally + hit) % 2 ^ 32 ≡ (from + read) % 2 ^ 32
+  pub part : hit ≤ read
   -- so they stay below 2^24, and nothing is lost by the modulus
-  pub few : accepted_reads (accesses h) ≤ t.number
-  pub limit : t.number ≤ 16777215
+  pub few : read ≤ number
+  pub limit : number ≤ 16777215
 
 -- a read either hits or raises the tally
 record OneRead (before after hit : ℕ) : Type 0 where
@@ -38,12 +36,12 @@ one_read room t m p given _ (as_free f k) l = rw f (record { fits = omega arith;
 one_read room t m p given _ (as_evict i f k) l = rw f (record { fits = omega arith; even = omega arith; most = omega arith })
 one_read room t m p given _ (as_pass f) l = rw f (record { fits = omega arith; even = omega arith; most = omega arith })
 
-abbrev asks : Access → ℕ → HintNumbers → Request
-asks k p g = record { access = k; page = p; hints = g }
-
 module _ (from : ℕ) where
-  accepts : (k : Access) (p : ℕ) (g : HintNumbers) (given : List ℕ) (h : List Event) (t : State) (m : Meaning) → t.number < 16777215 → Balance from h t m
-      → Balance from (request_event (asks k p g) given (after None t m (asks k p g) given) ∷ h) (after None t m (asks k p g) given).state (after None t m (asks k p g) given).store
+  abbrev Balanced : List Event → State → Meaning → Type 0
+  Balanced h t m = Balance from m.tally (hits (accepted h)) (accepted_reads (accesses h)) t.number
+
+  accepts : (k : Access) (p : ℕ) (g : HintNumbers) (given : List ℕ) (h : List Event) (t : State) (m : Meaning) → t.number < 16777215 → Balanced h t m
+      → Balanced (request_event (asks k p g) given (after None t m (asks k p g) given) ∷ h) (after None t m (asks k p g) given).state (after None t m (asks k p g) given).store
   accepts Write p g given h t m l w = record {
     fits = w.fits;
     even = omega (arith, w.even);
@@ -62,29 +60,15 @@ module _ (from : ℕ) where
         limit = omega arith;
       }
 
-  same : (h : List Event) (t : State) (m : Meaning) (e : Event) → accepted (e ∷ h) ≡ accepted h → accepted_reads (accesses (e ∷ h)) ≡ accepted_reads (accesses h) → Balance from h t m → Balance from (e ∷ h) t m
-  same h t m e a b w = record {
-    fits = w.fits;
-    even = rw (a, b) w.even;
-    part = rw (a, b) w.part;
-    few = rw b w.few;
-    limit = w.limit;
-  }
-
-  request_balance : (o : Option Refused) (h : List Event) (t : State) (m : Meaning) (r : Request) (given : List ℕ) → refusal t m r (length given) ≡ o → Balance from h t m
-      → Balance from (request_event r given (after o t m r given) ∷ h) (after o t m r given).state (after o t m r given).store
-  request_balance (Some f) h t m r given e w = same h t m (request_event r given (after (Some f) t m r given)) refl refl w
+  request_balance : OnRequest Balanced
+  request_balance (Some f) h t m r given e w = w
   request_balance None h t m r given e w = accepts r.access r.page r.hints given h t m (granted t m r (length given) e) w
 
-  balance_keeps : Keeps (Balance from)
-  balance_keeps = record {
-    request = request_balance;
-    peek = λ h t m p given w. same h t m _ refl refl w;
-    look = λ h t m l w. same h t m _ refl refl w;
-  }
+  balance_keeps : Keeps Balanced
+  balance_keeps = record { request = request_balance; peek = λ h t m p given w. w; look = λ h t m l w. w }
 
 pub conservation : Every Conservation
 conservation sizes below h t m lawful good w =
-    let b = along (Balance below.tally) (balance_keeps below.tally) (opened sizes) below
+    let b = along (Balanced below.tally) (balance_keeps below.tally) (opened sizes) below
     (record { fits = good.tally; even = refl; part = omega arith; few = omega arith; limit = omega arith }) h t m w in
     omega (arith, good.tally, b.fits, b.even, b.part, b.few, b.limit)

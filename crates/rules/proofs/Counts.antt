@@ -1,5 +1,6 @@
 -- The tables count the open window.
-use Rattle.std.proofs.Common.{◌≡◌, ℕ, zero, suc, ◌+◌, ◌%◌, ◌<◌, ◌≤◌, Bool, true, false, cond, eqb, List, [], ◌∷◌, map, length, take, Some, None, Ok, Option, sym, refl, ap, ◌∙◌, mod-lt, mod-eq_of_lt, add-one, arith, length-take-le}
+use Rattle.std.proofs.Common.{◌≡◌, ℕ, ◌+◌, ◌%◌, ◌<◌, Bool, true, false, cond, eqb, List, [], ◌∷◌, map, length, take, Some, None, Ok, Option, sym, refl, ap, ◌∙◌, mod-lt, mod-eq_of_lt, add-one, arith, length-take-le}
+use Rattle.std.proofs.lemmas.List.{length-map, length-take}
 use native.Mathlib.Nat.{suc-mod, mod_self, mod-le}
 use Rattle.std.proofs.lemmas.Bool.{eqb-true, eqb-false}
 use Rattle.values.specs.declared.hint_numbers.HintNumbers.{HintNumbers}
@@ -7,23 +8,21 @@ use Rattle.values.specs.declared.size_numbers.SizeNumbers.{SizeNumbers}
 use Rattle.values.specs.Sizes.{sizes_from}
 use Rattle.values.proofs.Limits.{Positive, Within, positive, within_limits}
 use Rattle.keys.specs.Meanings.{hint_meaning, page_meaning}
-use Rattle.counting.specs.Rows.{credited, found, fresh}
-use Rattle.counting.specs.Rule.{counting, credit, credited_as}
+use Rattle.counting.specs.Rows.{fresh}
+use Rattle.counting.specs.Rule.{counting}
 use Rattle.counting.specs.declared.row.Row.{Row}
-use Rattle.counting.proofs.Invariants.{Invariant, change_keeps, lawful, start}
+use Rattle.counting.proofs.Invariants.{Invariant, credit_keeps, lawful, start}
 use Rattle.counting.proofs.Countings.{counting_keeps}
 use Rattle.store.specs.Meaning.{Meaning}
 use Rattle.rules.specs.declared.entry.Entry.{Entry}
-use Rattle.rules.specs.declared.request.Request.{Request}
-use Rattle.rules.specs.Refusals.{Refused}
 use Rattle.rules.specs.State.{State, Tables, opened}
 use Rattle.rules.specs.Placing.{known}
 use Rattle.rules.specs.Learning.{close, count, credit_known, emptied, with_live}
-use Rattle.rules.specs.Requests.{after, answer, distance, refusal}
-use Rattle.rules.specs.Histories.{Event, request_event}
+use Rattle.rules.specs.Requests.{answer, distance}
+use Rattle.rules.specs.Histories.{Event}
 use Rattle.rules.specs.Accepted.{Accepted, accepted}
 use Rattle.rules.specs.Laws.{Counting, Every}
-use Rattle.rules.proofs.Along.{Keeps, along}
+use Rattle.rules.proofs.Along.{OnAccepted, along_accepted}
 use Rattle.rules.proofs.Numberings.{numbered}
 
 abbrev no_hints : HintNumbers
@@ -43,18 +42,10 @@ HintsCount n rs w = Invariant hint_meaning n hint_row rs w
 abbrev PagesCount : ℕ → List (Row ℕ) → List ℕ → Type 0
 PagesCount n rs w = Invariant page_meaning n page_row rs w
 
-credit_keeps : (n : ℕ) (w : List HintNumbers) (rs : List (Row HintNumbers)) (g : HintNumbers) (d : ℕ) → HintsCount n rs w → HintsCount n (credit hint_meaning rs g d) w
-unfolding credit
-credit_keeps n w rs g d v = go (found hint_meaning rs g)
-  where
-    go : (o : Option (ℕ × Row HintNumbers)) → HintsCount n (credited_as rs d o) w
-    go None = v
-    go (Some p) = change_keeps hint_meaning n hint_row (credited d) (λ r. refl) (λ r. refl) (λ r. refl) rs p.0 w v
-
 credit_known_keeps : (n : ℕ) (w : List HintNumbers) (e : Option Entry) (d : Option ℕ) (rs : List (Row HintNumbers)) → HintsCount n rs w → HintsCount n (credit_known e d rs) w
 credit_known_keeps n w None d rs v = v
 credit_known_keeps n w (Some e) None rs v = v
-credit_known_keeps n w (Some e) (Some d) rs v = credit_keeps n w rs e.hints d v
+credit_known_keeps n w (Some e) (Some d) rs v = credit_keeps hint_meaning n hint_row rs w v e.hints d
 
 -- ---- the tables, by the accepted requests xs
 pub record Counts (z : SizeNumbers) (s : ℕ) (t : Tables) (xs : List Accepted) : Type 0 where
@@ -62,13 +53,11 @@ pub record Counts (z : SizeNumbers) (s : ℕ) (t : Tables) (xs : List Accepted) 
   pub hints : HintsCount z.hint_rows t.live (map (λ x. x.request.hints) (take t.requests xs))
   pub pages : PagesCount z.page_rows t.pages (map (λ x. x.request.page) (take t.requests xs))
 
-length_window : {B : Type 0} (f : Accepted → B) (c : ℕ) (xs : List Accepted) → length (map f (take c xs)) ≤ c
-length_window f zero xs = omega arith
-length_window f (suc c) [] = omega arith
-length_window f (suc c) (x ∷ xs) = let h = length_window f c xs in omega arith
-
-one_more : {B : Type 0} (f : Accepted → B) (c : ℕ) (x : Accepted) (xs : List Accepted) → map f (take (c + 1) (x ∷ xs)) ≡ f x ∷ map f (take c xs)
-one_more f c x xs = rw (add-one c) refl
+-- a counting of one request more, where the window has so many
+window_more : {K : Type 0} (m : K → List ℕ) (n : ℕ) (d : Row K) (f : Accepted → K) (c : ℕ) (x : Accepted) (xs : List Accepted) (rs : List (Row K)) (number : ℕ) → 0 < n → c < 2048
+    → Invariant m n d rs (map f (take c xs)) → Invariant m n d (counting m n rs (f x) number) (map f (take (c + 1) (x ∷ xs)))
+window_more m n d f c x xs rs number some few v =
+    rw (add-one c) (counting_keeps m n d rs (map f (take c xs)) v some (simp (length-map, length-take) (omega arith)) (f x) number)
 
 tables_step : (z : SizeNumbers) (s : ℕ) (x : Accepted) (t : Tables) (xs : List Accepted) → Positive z → Within z → Counts z s t xs
     → Counts z (s + 1) (close z (count z (s + 1) x.request.page x.request.hints t)) (x ∷ xs)
@@ -83,14 +72,6 @@ tables_step z s x t xs least most c = go (eqb (t.requests + 1) z.window) refl
 
     up : (s + 1) % z.window ≡ (t.requests + 1) % z.window
     up = rw (add-one s, add-one t.requests, c.same) (suc-mod s z.window)
-
-    more_hints : HintsCount z.hint_rows (counting hint_meaning z.hint_rows t.live x.request.hints (s + 1)) (x.request.hints ∷ map (λ y. y.request.hints) (take t.requests xs))
-    more_hints = counting_keeps hint_meaning z.hint_rows hint_row t.live (map (λ y. y.request.hints) (take t.requests xs)) c.hints (omega (arith, least.hints))
-        (omega (arith, length_window (λ y. y.request.hints) t.requests xs, most.window, small)) x.request.hints (s + 1)
-
-    more_pages : PagesCount z.page_rows (counting page_meaning z.page_rows t.pages x.request.page (s + 1)) (x.request.page ∷ map (λ y. y.request.page) (take t.requests xs))
-    more_pages = counting_keeps page_meaning z.page_rows page_row t.pages (map (λ y. y.request.page) (take t.requests xs)) c.pages (omega (arith, least.pages))
-        (omega (arith, length_window (λ y. y.request.page) t.requests xs, most.window, small)) x.request.page (s + 1)
 
     next : Tables
     next = record {
@@ -109,39 +90,31 @@ tables_step z s x t xs least most c = go (eqb (t.requests + 1) z.window) refl
     go false e =
         let ne = eqb-false _ _ e in
         let l : t.requests + 1 < z.window = omega (arith, small, ne) in
+        let few : t.requests < 2048 = omega (arith, small, most.window) in
         record {
           same = sym (up ∙ mod-eq_of_lt l);
-          hints = rw (one_more (λ y. y.request.hints) t.requests x xs) more_hints;
-          pages = rw (one_more (λ y. y.request.page) t.requests x xs) more_pages;
+          hints = window_more hint_meaning z.hint_rows hint_row (λ y. y.request.hints) t.requests x xs t.live (s + 1) (omega (arith, least.hints)) few c.hints;
+          pages = window_more page_meaning z.page_rows page_row (λ y. y.request.page) t.requests x xs t.pages (s + 1) (omega (arith, least.pages)) few c.pages;
         }
 
-pub record Counted (h : List Event) (t : State) (m : Meaning) : Type 0 where
+pub record Counted (xs : List Accepted) (t : State) : Type 0 where
   pub positive : Positive t.sizes
   pub within : Within t.sizes
-  pub counts : Counts t.sizes t.number t.tables (accepted h)
+  pub counts : Counts t.sizes t.number t.tables xs
 
-request_counted : (o : Option Refused) (h : List Event) (t : State) (m : Meaning) (r : Request) (given : List ℕ) → refusal t m r (length given) ≡ o → Counted h t m
-    → Counted (request_event r given (after o t m r given) ∷ h) (after o t m r given).state (after o t m r given).store
-request_counted (Some f) h t m r given e c = record { positive = c.positive; within = c.within; counts = c.counts }
-request_counted None h t m r given e c =
+pub counted_more : OnAccepted Counted
+counted_more xs t m r given e c =
     let k = known r.page t.places in
     let d = distance r.access (t.number + 1) k in
     record {
       positive = c.positive;
       within = c.within;
-      counts = tables_step t.sizes t.number (record { request = r; answer = answer t r }) (with_live (credit_known k d t.tables.live) t.tables) (accepted h) c.positive c.within
+      counts = tables_step t.sizes t.number (record { request = r; answer = answer t r }) (with_live (credit_known k d t.tables.live) t.tables) xs c.positive c.within
           (record { same = c.counts.same; hints = credit_known_keeps _ _ k d t.tables.live c.counts.hints; pages = c.counts.pages });
     }
 
-pub counted_keeps : Keeps Counted
-counted_keeps = record {
-  request = request_counted;
-  peek = λ h t m p given c. record { positive = c.positive; within = c.within; counts = c.counts };
-  look = λ h t m l c. record { positive = c.positive; within = c.within; counts = c.counts };
-}
-
-pub counted_start : (sizes : SizeNumbers) (m : Meaning) → sizes_from sizes ≡ Ok sizes → Counted [] (opened sizes) m
-counted_start sizes m ok =
+pub counted_start : (sizes : SizeNumbers) → sizes_from sizes ≡ Ok sizes → Counted [] (opened sizes)
+counted_start sizes ok =
     let least = positive sizes sizes ok in
     record {
       positive = least;
@@ -153,12 +126,12 @@ counted_start sizes m ok =
       };
     }
 
-pub counted : Every (λ sizes below h t m. Counted h t m)
-counted sizes below h t m ok good w = along Counted counted_keeps (opened sizes) below (counted_start sizes below ok) h t m w
+pub counted : Every (λ sizes below h t m. Counted (accepted h) t)
+counted sizes below h t m ok good w = along_accepted Counted counted_more (opened sizes) below (counted_start sizes ok) h t m w
 
 -- the window is not full between requests
-pub small : (h : List Event) (t : State) (m : Meaning) → Counted h t m → t.tables.requests < t.sizes.window
-small h t m c = let l : 0 < t.sizes.window = omega (arith, c.positive.window) in omega (arith, mod-lt t.number l, c.counts.same)
+pub small : (xs : List Accepted) (t : State) → Counted xs t → t.tables.requests < t.sizes.window
+small xs t c = let l : 0 < t.sizes.window = omega (arith, c.positive.window) in omega (arith, mod-lt t.number l, c.counts.same)
 
 counting_by : (z : SizeNumbers) (below : Meaning) (h : List Event) (t : State) (m : Meaning) → Counts z (length (accepted h)) t.tables (accepted h) → Counting z below h t m
 counting_by z below h t m c = record {

@@ -1,14 +1,12 @@
 -- Refused calls, peeks and looks change nothing; and all the laws of every history.
-use Rattle.std.proofs.Common.{◌≡◌, ℕ, List, ◌∷◌, length, Some, None, Option, subst}
+use Rattle.std.proofs.Common.{List, ◌∷◌, Some, None, subst}
 use Rattle.store.specs.Meaning.{Meaning}
-use Rattle.rules.specs.declared.request.Request.{Request}
-use Rattle.rules.specs.Refusals.{Refused}
 use Rattle.rules.specs.State.{State, opened}
-use Rattle.rules.specs.Requests.{after, refusal}
+use Rattle.rules.specs.Requests.{after}
 use Rattle.rules.specs.Histories.{Event, ask, request_event, Reaches, start, more}
 use Rattle.rules.specs.Accepted.{only_accepted}
 use Rattle.rules.specs.Laws.{Every, LawfulHistory, Undisturbed}
-use Rattle.rules.proofs.Along.{Keeps, along}
+use Rattle.rules.proofs.Along.{Keeps, OnRequest, along}
 use Rattle.rules.proofs.Conservations.{conservation}
 use Rattle.rules.proofs.Counts.{counting_holds}
 use Rattle.rules.proofs.Distances.{distance, one_place}
@@ -19,8 +17,7 @@ module _ (first : State) (below : Meaning) where
   abbrev Led : List Event → State → Meaning → Type 0
   Led h t m = Reaches first below (only_accepted h) t m
 
-  request_led : (o : Option Refused) (h : List Event) (t : State) (m : Meaning) (r : Request) (given : List ℕ) → refusal t m r (length given) ≡ o → Led h t m
-      → Led (request_event r given (after o t m r given) ∷ h) (after o t m r given).state (after o t m r given).store
+  request_led : OnRequest Led
   request_led (Some f) h t m r given e w = w
   request_led None h t m r given e w =
       subst (λ o. Reaches first below (request_event r given (after o t m r given) ∷ only_accepted h) (after o t m r given).state (after o t m r given).store) e

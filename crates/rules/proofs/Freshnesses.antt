@@ -1,14 +1,14 @@
 -- Reads and peeks get the latest bytes.
-use Rattle.std.proofs.Common.{◌≡◌, ℕ, zero, suc, Bool, true, false, cond, eqb, List, [], ◌∷◌, ◌++◌, length, set, Some, None, Ok, Err, Option, Result, sym, refl, ap, ◌∙◌, subst, arith}
+use Rattle.std.proofs.Common.{◌≡◌, ℕ, zero, suc, true, false, cond, eqb, List, [], ◌∷◌, ◌++◌, length, set, Some, None, Ok, Option, sym, refl, ap, ◌∙◌, subst, arith}
 use Rattle.std.specs.List.{AllByRecursion}
-use Rattle.std.proofs.lemmas.Bool.{both_ways, eqb-true, eq-eqb, ne_eqb}
+use Rattle.std.proofs.lemmas.Bool.{both_ways, eq-eqb, ne_eqb}
 use Rattle.values.specs.declared.hint_numbers.HintNumbers.{HintNumbers}
 use Rattle.store.specs.declared.script.Access.{Access}
 use Rattle.store.specs.declared.script.Access.TheVariants.{Read, Write}
 use Rattle.store.specs.Meaning.{Meaning, put, tallied}
-use Rattle.store.specs.Laws.{latest, Throughout}
+use Rattle.store.specs.Laws.{latest}
 use Rattle.rules.specs.declared.request.Request.{Request}
-use Rattle.rules.specs.Refusals.{Refused, plain}
+use Rattle.rules.specs.Refusals.{Refused}
 use Rattle.rules.specs.State.{CachedPage, Places, State, opened}
 use Rattle.rules.specs.Pages.{cached_page, in_cache, seek}
 use Rattle.rules.specs.Choices.{Choice}
@@ -16,12 +16,11 @@ use Rattle.rules.specs.Placing.{cache_after}
 use Rattle.rules.specs.Requests.{after, cached_or, choice, newcomer, refusal}
 use Rattle.rules.specs.Looks.{peek_answer, peek_buffer}
 use Rattle.rules.specs.Histories.{Event, request_event}
-use Rattle.rules.specs.Accepted.{accepted, accesses, latest_number}
+use Rattle.rules.specs.Accepted.{Accepted, accepted, accesses, latest_number}
 use Rattle.rules.specs.Laws.{Every, Freshness, GetsLatest}
-use Rattle.rules.proofs.Along.{Keeps, along}
+use Rattle.rules.proofs.Along.{Keeps, Obeys, OnRequest, along, asks, throughout}
 use Rattle.rules.proofs.Chosen.{Chosen, as_hit, as_free, as_evict, as_pass, chosen}
-use Rattle.rules.proofs.Distances.{Placed, placed_keeps}
-use Rattle.rules.proofs.Numberings.{refused}
+use Rattle.rules.proofs.Distances.{Placed, placed_more}
 use Rattle.rules.proofs.Singles.{Absent, Once, this, that, set_found, swap}
 use Rattle.rules.proofs.Where.{Where, never, gone, cached, queued, none_absent}
 
@@ -66,97 +65,81 @@ module _ (P Q : CachedPage → Type 0) (x : CachedPage) (keep : (y : CachedPage)
 abbrev Mirrors : (ℕ → List ℕ) → CachedPage → Type 0
 Mirrors pages x = x.bytes ≡ pages x.entry.page
 
-mirror : (pages : ℕ → List ℕ) (p : ℕ) (x : CachedPage) (cs : List CachedPage) → AllByRecursion (Mirrors pages) cs → in_cache p cs ≡ Some x → x.bytes ≡ pages p
-mirror pages p x [] h e = let z : ◌≡◌ {A = ℕ} 0 1 = cc in let no : ⊥ = omega arith in absurd no
-mirror pages p x (y ∷ cs) h e = go (eqb y.entry.page p) refl e (mirror pages p x cs h.1)
-  where
-    go : (b : Bool) → eqb y.entry.page p ≡ b → cond b (Some y) (in_cache p cs) ≡ Some x → (in_cache p cs ≡ Some x → x.bytes ≡ pages p) → x.bytes ≡ pages p
-    go true q r ih =
-        let same : y ≡ x = cc in
-        subst (λ w. w.bytes ≡ pages p) same (h.0 ∙ ap pages (eqb-true _ _ q))
-    go false q r ih = ih r
-
--- the bytes that a read gets are the store's
-read_content : (t : State) (m : Meaning) (p : ℕ) → AllByRecursion (Mirrors m.pages) t.places.cache → (o : Option CachedPage) → in_cache p t.places.cache ≡ o
-    → cached_or (λ x. x.bytes) (m.pages p) o ≡ m.pages p
-read_content t m p h None e = refl
-read_content t m p h (Some x) e = mirror m.pages p x t.places.cache h e
+-- so the bytes that a read gets are the store's
+mirror : (pages : ℕ → List ℕ) (p : ℕ) (cs : List CachedPage) → AllByRecursion (Mirrors pages) cs → cached_or (λ x. x.bytes) (pages p) (in_cache p cs) ≡ pages p
+mirror pages p [] h = refl
+mirror pages p (y ∷ cs) h = grind (arith, mirror pages p cs h.1, h.0)
 
 -- and it leaves them
 read_leaves : (m : Meaning) (o : Option CachedPage) → (cached_or (λ _. m) (tallied m) o).pages ≡ m.pages
 read_leaves m None = refl
 read_leaves m (Some x) = refl
 
-record Fresh (first : ℕ → List ℕ) (h : List Event) (t : State) (m : Meaning) : Type 0 where
-  placed : Placed h t m
-  stored : (q : ℕ) → m.pages q ≡ latest first (accesses h) q
+-- the bytes of every page are these now
+record Fresh (now : ℕ → List ℕ) (xs : List Accepted) (t : State) (m : Meaning) : Type 0 where
+  placed : Placed xs t
+  stored : (q : ℕ) → m.pages q ≡ now q
   mirrored : AllByRecursion (Mirrors m.pages) t.places.cache
-  law : Throughout (GetsLatest first) h
-
-abbrev asks : Access → ℕ → HintNumbers → Request
-asks k p g = record { access = k; page = p; hints = g }
 
 module _ (first : ℕ → List ℕ) where
-  accepts : (k : Access) (p : ℕ) (g : HintNumbers) (given : List ℕ) (h : List Event) (t : State) (m : Meaning) → refusal t m (asks k p g) (length given) ≡ None → Fresh first h t m
-      → Fresh first (request_event (asks k p g) given (after None t m (asks k p g) given) ∷ h) (after None t m (asks k p g) given).state (after None t m (asks k p g) given).store
+  abbrev FreshSoFar : List Event → State → Meaning → Type 0
+  FreshSoFar h t m = Fresh (latest first (accesses h)) (accepted h) t m
+
+  accepts : (k : Access) (p : ℕ) (g : HintNumbers) (given : List ℕ) (h : List Event) (t : State) (m : Meaning) → refusal t m (asks k p g) (length given) ≡ None → FreshSoFar h t m
+      → FreshSoFar (request_event (asks k p g) given (after None t m (asks k p g) given) ∷ h) (after None t m (asks k p g) given).state (after None t m (asks k p g) given).store
   accepts Write p g given h t m e f =
       let r = asks Write p g in
       record {
-        placed = placed_keeps.request None h t m r given e f.placed;
+        placed = placed_more (accepted h) t m r given e f.placed;
         stored = λ q. ap (λ v. cond (eqb q p) given v) (f.stored q);
         mirrored = all_after (Mirrors m.pages) (Mirrors (put m.pages p given)) (newcomer t m r given)
             (λ y ne q. rw (ne_eqb y.entry.page p ne) q) (rw (eq-eqb p p refl))
             t.sizes.cache_places t.sizes.queue_places t.number (latest_number p (accepted h)) t.places (f.placed p) (choice t r)
             (chosen t.sizes.cache_places t.tables.closed t.places.cache p g) f.mirrored;
-        law = ((λ k. absurd (both_ways false refl k)), f.law);
       }
   accepts Read p g given h t m e f =
       let r = asks Read p g in
       let same = read_leaves m (in_cache p t.places.cache) in
-      let got = read_content t m p f.mirrored (in_cache p t.places.cache) refl in
       record {
-        placed = placed_keeps.request None h t m r given e f.placed;
+        placed = placed_more (accepted h) t m r given e f.placed;
         stored = λ q. ap (λ (u : ℕ → List ℕ). u q) same ∙ f.stored q;
         mirrored = subst (λ (u : ℕ → List ℕ). AllByRecursion (Mirrors u) (cache_after (choice t r) (newcomer t m r given) t.places.cache)) (sym same)
-            (all_after (Mirrors m.pages) (Mirrors m.pages) (newcomer t m r given) (λ y ne q. q) got
+            (all_after (Mirrors m.pages) (Mirrors m.pages) (newcomer t m r given) (λ y ne q. q) (mirror m.pages p t.places.cache f.mirrored)
             t.sizes.cache_places t.sizes.queue_places t.number (latest_number p (accepted h)) t.places (f.placed p) (choice t r)
             (chosen t.sizes.cache_places t.tables.closed t.places.cache p g) f.mirrored);
-        law = ((λ k. got ∙ f.stored p), f.law);
       }
 
-  request_fresh : (o : Option Refused) (h : List Event) (t : State) (m : Meaning) (r : Request) (given : List ℕ) → refusal t m r (length given) ≡ o → Fresh first h t m
-      → Fresh first (request_event r given (after o t m r given) ∷ h) (after o t m r given).state (after o t m r given).store
-  request_fresh (Some x) h t m r given e f = record {
-    placed = f.placed;
-    stored = f.stored;
-    mirrored = f.mirrored;
-    law = ((λ k. absurd (both_ways false refl k)), f.law);
-  }
+  request_fresh : OnRequest FreshSoFar
+  request_fresh (Some x) h t m r given e f = f
   request_fresh None h t m r given e f = accepts r.access r.page r.hints given h t m e f
 
-  peek_gets : (h : List Event) (t : State) (m : Meaning) (p : ℕ) (given : List ℕ) → Fresh first h t m → peek_answer t p (length given) ≡ Ok true → peek_buffer t p given ≡ latest first (accesses h) p
-  peek_gets h t m p given f = go t.is_open (eqb (length given) 256) (in_cache p t.places.cache) refl
+  fresh_keeps : Keeps FreshSoFar
+  fresh_keeps = record { request = request_fresh; peek = λ h t m p given f. f; look = λ h t m l f. f }
+
+  -- ---- what is returned
+  accepted_gets : (k : Access) (p : ℕ) (g : HintNumbers) (given : List ℕ) (h : List Event) (t : State) (m : Meaning) → FreshSoFar h t m
+      → GetsLatest first h (request_event (asks k p g) given (after None t m (asks k p g) given))
+  accepted_gets Write p g given h t m f k = absurd (both_ways false refl k)
+  accepted_gets Read p g given h t m f k = mirror m.pages p t.places.cache f.mirrored ∙ f.stored p
+
+  request_gets : (o : Option Refused) (h : List Event) (t : State) (m : Meaning) (r : Request) (given : List ℕ) → FreshSoFar h t m → GetsLatest first h (request_event r given (after o t m r given))
+  request_gets (Some x) h t m r given f = λ k. absurd (both_ways false refl k)
+  request_gets None h t m r given f = accepted_gets r.access r.page r.hints given h t m f
+
+  peek_gets : (h : List Event) (t : State) (m : Meaning) (p : ℕ) (given : List ℕ) → FreshSoFar h t m → peek_answer t p (length given) ≡ Ok true → peek_buffer t p given ≡ latest first (accesses h) p
+  peek_gets h t m p given f = grind (arith, got (in_cache p t.places.cache) (mirror m.pages p t.places.cache f.mirrored))
     where
-      no : ◌≡◌ {A = Result Bool Refused} (Ok false) (Ok true) → ⊥
-      no q = let z : ◌≡◌ {A = ℕ} 0 1 = cc in omega arith
+      got : (o : Option CachedPage) → cached_or (λ x. x.bytes) (m.pages p) o ≡ m.pages p → cached_or (λ _. true) false o ≡ true → cached_or (λ x. x.bytes) given o ≡ latest first (accesses h) p
+      got None e q = cc
+      got (Some x) e q = e ∙ f.stored p
 
-      go : (a b : Bool) (o : Option CachedPage) → in_cache p t.places.cache ≡ o
-          → cond a (cond b (Ok (cached_or (λ _. true) false o)) (Err (plain 3))) (Err (plain 2)) ≡ Ok true
-          → cond a (cond b (cached_or (λ x. x.bytes) given o) given) given ≡ latest first (accesses h) p
-      go false b o e q = refused (plain 2) true q
-      go true false o e q = refused (plain 3) true q
-      go true true None e q = absurd (no q)
-      go true true (Some x) e q = mirror m.pages p x t.places.cache f.mirrored e ∙ f.stored p
-
-  fresh_keeps : Keeps (Fresh first)
-  fresh_keeps = record {
-    request = request_fresh;
-    peek = λ h t m p given f. record { placed = f.placed; stored = f.stored; mirrored = f.mirrored; law = (peek_gets h t m p given f, f.law) };
-    look = λ h t m l f. record { placed = f.placed; stored = f.stored; mirrored = f.mirrored; law = (tt, f.law) };
-  }
+  fresh_obeys : Obeys FreshSoFar (GetsLatest first)
+  fresh_obeys = record { request = request_gets; peek = peek_gets; look = λ h t m l f. tt }
 
 pub freshness : Every Freshness
 freshness sizes below h t m lawful good w =
-    let f = along (Fresh below.pages) (fresh_keeps below.pages) (opened sizes) below
-    (record { placed = λ q. never refl tt tt; stored = λ q. refl; mirrored = tt; law = tt }) h t m w in
-    record { gets = f.law; stored = f.stored }
+    let fresh = along (FreshSoFar below.pages) (fresh_keeps below.pages) (opened sizes) below (record { placed = λ q. never refl tt tt; stored = λ q. refl; mirrored = tt }) in
+    record {
+      gets = throughout (FreshSoFar below.pages) (GetsLatest below.pages) (fresh_obeys below.pages) (opened sizes) below fresh h t m w;
+      stored = (fresh h t m w).stored;
+    }

@@ -1,9 +1,9 @@
 -- Places and rows stay within their bounds.
-use Rattle.std.proofs.Common.{◌≡◌, ℕ, ◌+◌, ◌<◌, ◌≤◌, Bool, true, false, cond, eqb, ltb, List, [], ◌∷◌, ◌++◌, length, get_or, drop, Some, None, Option, refl, subst, arith, length-drop, length-set}
+use Rattle.std.proofs.Common.{◌≡◌, ℕ, ◌+◌, ◌<◌, ◌≤◌, Bool, true, false, cond, eqb, List, length, get_or, drop, Some, None, Option, refl, subst, arith, length-drop, length-set}
 use Rattle.std.specs.List.{AllByRecursion}
 use Rattle.std.proofs.ByRecursion.{All-weaker}
 use Rattle.std.proofs.lemmas.List.{length_push}
-use Rattle.std.proofs.lemmas.Bool.{eqb-true, ltb-true, ltb-false}
+use Rattle.std.proofs.lemmas.Bool.{eqb-true}
 use Rattle.values.specs.declared.hint_numbers.HintNumbers.{HintNumbers}
 use Rattle.values.specs.declared.size_numbers.SizeNumbers.{SizeNumbers}
 use Rattle.values.proofs.Limits.{Within}
@@ -33,11 +33,7 @@ cache_length room p x cs _ (as_evict i f k) l = simp length-set l
 cache_length room p x cs _ (as_pass f) l = l
 
 enter_length : (n : ℕ) (y : Entry) (qs : List Entry) → 1 ≤ n → length qs ≤ n → length (enter n y qs) ≤ n
-enter_length n y qs pos l = go (ltb (length qs) n) refl
-  where
-    go : (b : Bool) → ltb (length qs) n ≡ b → length (cond b qs (drop 1 qs) ++ y ∷ []) ≤ n
-    go true e = omega (arith, ltb-true _ _ e, length_push qs y)
-    go false e = omega (arith, ltb-false _ _ e, length_push (drop 1 qs) y, length-drop 1 qs)
+enter_length n y qs pos l = grind (arith, length_push qs y, length_push (drop 1 qs) y, length-drop 1 qs)
 
 pub queue_length : (room n p : ℕ) (e : Entry) (cs : List CachedPage) (es qs : List Entry) (d : Choice) → Chosen room p cs d → 1 ≤ n → length qs ≤ n → length (queue_after n d e es (unqueue p qs)) ≤ n
 queue_length room n p e cs es qs _ (as_hit y f k) pos l = omega (arith, shorter entry_page p qs)

@@ -1,14 +1,14 @@
 -- Where each page is after a request.
-use Rattle.std.proofs.Common.{◌≡◌, ℕ, ◌+◌, ◌<◌, ◌≤◌, cond, eqb, ◌⊎◌, length, get_or, set, Some, Option, sym, refl, ap, ◌∙◌, subst, inl, inr, arith}
+use Rattle.std.proofs.Common.{◌≡◌, ℕ, ◌+◌, ◌<◌, cond, eqb, ◌⊎◌, length, get_or, Some, Option, sym, refl, ap, ◌∙◌, subst, inl, inr, arith}
 use Rattle.std.proofs.lemmas.Bool.{cases_eq, eq-eqb, ne_eqb}
 use Rattle.rules.specs.State.{CachedPage, Places}
 use Rattle.rules.specs.Pages.{cached_page, entry_page, seek}
 use Rattle.rules.specs.Choices.{Choice, hit, evict}
 use Rattle.rules.specs.Placing.{place, unqueue}
 use Rattle.rules.proofs.Chosen.{Chosen, as_hit, as_free, as_evict, as_pass}
-use Rattle.rules.proofs.Entries.{get_or_entries}
-use Rattle.rules.proofs.Singles.{Absent, Once, absent_at, absent_enter, absent_find, absent_kept, last_enter, once_last, once_out, set_found, set_once, swap, swap_gone, swap_new, swap_same}
-use Rattle.rules.proofs.Where.{Where, never, gone, cached, queued, Unqueued, entered, none_absent, other, pushed, some_none, swapped, unqueued}
+use Rattle.std.proofs.Math.ListN.{get_or-map}
+use Rattle.rules.proofs.Singles.{Absent, absent_at, absent_enter, absent_find, absent_kept, last_enter, once_last, set_found, swap_gone, swap_new, swap_same}
+use Rattle.rules.proofs.Where.{Where, never, gone, cached, queued, entered, none_absent, other, pushed, removed, Spot, spot, swapped, unqueued}
 
 -- in a cache of so many places, and a queue of n: x is the requested page as it is cached, at number s + 1, and l gives the number
 -- of each page's latest request before it
@@ -19,62 +19,31 @@ module _ (room n s : ℕ) (x : CachedPage) (at : x.entry.number ≡ s + 1) (a : 
   abbrev at_place : ℕ → CachedPage
   at_place i = get_or a.cache i x
 
-  -- the one place of a cached page v, which is at place i
-  record Spot (v : CachedPage) (i : ℕ) : Type 0 where
-    behind : ℕ
-    once : Once cached_page v.entry.page behind v a.cache
-    latest : l v.entry.page ≡ Some v.entry.number
-    unqueued_too : Unqueued v.entry.page a
-    before : v.entry.number ≤ s
-    swaps : set a.cache i x ≡ swap cached_page v.entry.page x a.cache
-
-  spot : (i : ℕ) → i < length a.cache → Spot (at_place i) i
-  spot i h = go (was (at_place i).entry.page)
-    where
-      go : Where (at_place i).entry.page n s (l (at_place i).entry.page) a → Spot (at_place i) i
-      go (never e c u) = absurd (absent_at cached_page _ i x a.cache h c refl)
-      go (gone t e c u g) = absurd (absent_at cached_page _ i x a.cache h c refl)
-      go (queued j y e c o g) = absurd (absent_at cached_page _ i x a.cache h c refl)
-      go (cached j y e o u g) =
-          let w = set_once cached_page (at_place i).entry.page j i y x x a.cache o refl h in
-          let same = sym w.1 in
-          record {
-            behind = j;
-            once = subst (λ v. Once cached_page (at_place i).entry.page j v a.cache) same o;
-            latest = e ∙ ap (λ v. Some v.entry.number) same;
-            unqueued_too = u;
-            before = subst (λ v. v.entry.number ≤ s) same g;
-            swaps = w.0;
-          }
+  spot_at : (i : ℕ) → i < length a.cache → Spot s l a i (at_place i)
+  spot_at = spot n s l a was x
 
   -- the requested page's entry is removed
   cleared : Absent entry_page page (unqueue page a.queue)
-  cleared = go (was page)
-    where
-      go : Where page n s (l page) a → Absent entry_page page (unqueue page a.queue)
-      go (never e c u) = absent_kept entry_page page page a.queue u
-      go (gone t e c u g) = absent_kept entry_page page page a.queue u
-      go (cached i y e o u g) = absent_kept entry_page page page a.queue u
-      go (queued i y e c o g) = once_out entry_page page i y a.queue o
+  cleared = removed n s (l page) a (was page)
 
   -- the requested page
   self : (d : Choice) → Chosen room page a.cache d → Where page n (s + 1) (Some (s + 1)) (place n d x a)
   self _ (as_hit y f k) = go (was page)
     where
       go : Where page n s (l page) a → Where page n (s + 1) (Some (s + 1)) (place n (hit (seek cached_page page a.cache)) x a)
-      go (never e c u) = absurd (some_none y _ f (absent_find cached_page _ _ c))
-      go (gone t e c u g) = absurd (some_none y _ f (absent_find cached_page _ _ c))
-      go (queued i w e c o g) = absurd (some_none y _ f (absent_find cached_page _ _ c))
+      go (never e c u) = absurd (cc (f, absent_find cached_page page a.cache c))
+      go (gone t e c u g) = absurd (cc (f, absent_find cached_page page a.cache c))
+      go (queued i w e c o g) = absurd (cc (f, absent_find cached_page page a.cache c))
       go (cached i w e o u g) =
           cached i x (ap Some (sym at)) (rw (set_found cached_page page x a.cache k) (swap_same cached_page page i w x a.cache refl o)) cleared (omega arith)
   self _ (as_free f k) = cached 0 x (ap Some (sym at)) (once_last cached_page page x a.cache refl (none_absent cached_page _ _ f)) cleared (omega arith)
   self _ (as_evict i f k) =
       let c = none_absent cached_page page a.cache f in
       let v = at_place i in
-      let o = spot i k in
+      let o = spot_at i k in
       let ne : v.entry.page ≡ page → ⊥ = absent_at cached_page page i x a.cache k c in
-      cached o.behind x (ap Some (sym at)) (rw o.swaps (swap_new cached_page v.entry.page page o.behind v x a.cache refl c o.once))
-      (rw (get_or_entries x a.cache i) (absent_enter entry_page n page v.entry _ ne cleared)) (omega arith)
+      cached o.behind x (ap Some (sym at)) (rw (o.swaps x) (swap_new cached_page v.entry.page page o.behind v x a.cache refl c o.once))
+      (rw (get_or-map (λ y. y.entry) a.cache i x) (absent_enter entry_page n page v.entry _ ne cleared)) (omega arith)
   self _ (as_pass f) =
       queued 0 x.entry (ap Some (sym at)) (none_absent cached_page _ _ f) (last_enter entry_page n page x.entry _ refl cleared) (omega arith)
 
@@ -89,18 +58,18 @@ module _ (room n s : ℕ) (x : CachedPage) (at : x.entry.number ≡ s + 1) (a : 
       v : CachedPage
       v = at_place i
 
-      o : Spot (at_place i) i
-      o = spot i k
+      o : Spot s l a i v
+      o = spot_at i k
 
       go : (q ≡ v.entry.page) ⊎ (q ≡ v.entry.page → ⊥) → Where q n (s + 1) (l q) (place n (evict i) x a)
       go (inr nv) =
-          other q n s (l q) a _ (rw o.swaps (swapped q x a.cache (λ e. np (sym e)) v.entry.page nv))
-          (rw (get_or_entries x a.cache i) (entered n page q np a.queue v.entry (λ e. nv (sym e)))) (was q)
+          other q n s (l q) a _ (rw (o.swaps x) (swapped q x a.cache (λ e. np (sym e)) v.entry.page nv))
+          (rw (get_or-map (λ y. y.entry) a.cache i x) (entered n page q np a.queue v.entry (λ e. nv (sym e)))) (was q)
       go (inl e) =
           let nx : page ≡ v.entry.page → ⊥ = λ h. np (e ∙ sym h) in
           subst (λ w. Where w n (s + 1) (l w) (place n (evict i) x a)) (sym e)
-          (queued 0 v.entry o.latest (rw o.swaps (swap_gone cached_page v.entry.page o.behind v x a.cache nx o.once))
-          (rw (get_or_entries x a.cache i) (last_enter entry_page n v.entry.page v.entry _ refl (absent_kept entry_page page v.entry.page a.queue o.unqueued_too)))
+          (queued 0 v.entry o.latest (rw (o.swaps x) (swap_gone cached_page v.entry.page o.behind v x a.cache nx o.once))
+          (rw (get_or-map (λ y. y.entry) a.cache i x) (last_enter entry_page n v.entry.page v.entry _ refl (absent_kept entry_page page v.entry.page a.queue o.unqueued_too)))
           (omega (arith, o.before)))
 
   pub moves : (d : Choice) → Chosen room page a.cache d → (q : ℕ) → Where q n (s + 1) (cond (eqb page q) (Some (s + 1)) (l q)) (place n d x a)

@@ -1,11 +1,10 @@
 -- Where a page is, by the number of its latest request: the invariant behind one place and the distances.
-use Rattle.std.proofs.Common.{◌≡◌, ℕ, ◌+◌, ◌≤◌, Bool, true, false, cond, eqb, ◌⊎◌, List, [], ◌∷◌, ◌++◌, Some, None, Option, refl, inl, inr, arith}
-use Rattle.std.proofs.lemmas.Bool.{eqb-false}
+use Rattle.std.proofs.Common.{◌≡◌, ℕ, ◌+◌, ◌<◌, ◌≤◌, ◌⊎◌, List, [], ◌∷◌, ◌++◌, length, get_or, set, Some, None, Option, sym, refl, ap, ◌∙◌, subst, inl, inr, arith}
 use Rattle.rules.specs.declared.entry.Entry.{Entry}
 use Rattle.rules.specs.State.{CachedPage, Places}
 use Rattle.rules.specs.Pages.{cached_page, entry_page, find}
 use Rattle.rules.specs.Placing.{enter, unqueue}
-use Rattle.rules.proofs.Singles.{Absent, Once, this, that, absent_enter, absent_kept, absent_push, absent_swap, once_enter, once_kept, once_push, swap, swap_other}
+use Rattle.rules.proofs.Singles.{Absent, Once, this, that, absent_at, absent_enter, absent_kept, absent_push, absent_swap, once_enter, once_kept, once_out, once_push, set_once, swap, swap_other}
 
 abbrev pub Uncached : ℕ → Places → Type 0
 Uncached q a = Absent cached_page q a.cache
@@ -20,16 +19,16 @@ pub data Where (q n s : ℕ) (l : Option ℕ) (a : Places) : Type 0 where
   cached : (i : ℕ) (x : CachedPage) → l ≡ Some x.entry.number → Once cached_page q i x a.cache → Unqueued q a → x.entry.number ≤ s → Where q n s l a
   queued : (i : ℕ) (e : Entry) → l ≡ Some e.number → Uncached q a → Once entry_page q i e a.queue → i + e.number ≤ s → Where q n s l a
 
-pub some_none : {A : Type 0} (x : A) (o : Option A) → o ≡ Some x → o ≡ None → ⊥
-some_none x o e f = let z : ◌≡◌ {A = ℕ} 0 1 = cc in omega arith
-
 pub none_absent : {A : Type 0} (page : A → ℕ) (p : ℕ) (xs : List A) → find page p xs ≡ None → Absent page p xs
 none_absent page p [] h = tt
-none_absent page p (x ∷ xs) h = go (eqb (page x) p) refl h (none_absent page p xs)
-  where
-    go : (b : Bool) → eqb (page x) p ≡ b → cond b (Some x) (find page p xs) ≡ None → (find page p xs ≡ None → Absent page p xs) → Absent page p (x ∷ xs)
-    go true e f ih = absurd (some_none x (Some x) refl f)
-    go false e f ih = (eqb-false _ _ e, ih f)
+none_absent page p (x ∷ xs) h = grind (arith, none_absent page p xs)
+
+-- a page whose entry is taken out of the queue is no longer there
+pub removed : {q : ℕ} (n s : ℕ) (l : Option ℕ) (a : Places) → Where q n s l a → Unqueued q (record { cache = a.cache; queue = unqueue q a.queue })
+removed n s l a (never e c u) = absent_kept entry_page _ _ a.queue u
+removed n s l a (gone t e c u g) = absent_kept entry_page _ _ a.queue u
+removed n s l a (cached i y e o u g) = absent_kept entry_page _ _ a.queue u
+removed n s l a (queued i y e c o g) = once_out entry_page _ i y a.queue o
 
 -- ---- what a request does to a page q that is not its own
 -- the cache keeps it
@@ -73,3 +72,36 @@ module _ (q : ℕ) (x : CachedPage) (cs : List CachedPage) (nx : x.entry.page �
 
   pub pushed : Kept q cs (cs ++ x ∷ [])
   pushed = (absent_push cached_page q x cs nx, λ i e o. (i + 1, once_push cached_page q i e x cs nx o))
+
+-- ---- the cached page at a place
+-- v is at place i: no other thing has its page, and its number is that of the page's latest request
+pub record Spot (s : ℕ) (l : ℕ → Option ℕ) (a : Places) (i : ℕ) (v : CachedPage) : Type 0 where
+  pub behind : ℕ
+  pub once : Once cached_page v.entry.page behind v a.cache
+  pub latest : l v.entry.page ≡ Some v.entry.number
+  pub unqueued_too : Unqueued v.entry.page a
+  pub before : v.entry.number ≤ s
+  pub swaps : (x : CachedPage) → set a.cache i x ≡ swap cached_page v.entry.page x a.cache
+
+module _ (n s : ℕ) (l : ℕ → Option ℕ) (a : Places) (was : (q : ℕ) → Where q n s (l q) a) (d : CachedPage) where
+  pub spot : (i : ℕ) → i < length a.cache → Spot s l a i (get_or a.cache i d)
+  spot i h = go (was q)
+    where
+      q : ℕ
+      q = (get_or a.cache i d).entry.page
+
+      go : Where q n s (l q) a → Spot s l a i (get_or a.cache i d)
+      go (never e c u) = absurd (absent_at cached_page _ i d a.cache h c refl)
+      go (gone t e c u g) = absurd (absent_at cached_page _ i d a.cache h c refl)
+      go (queued j y e c o g) = absurd (absent_at cached_page _ i d a.cache h c refl)
+      go (cached j y e o u g) =
+          let set_at = λ (x : CachedPage). set_once cached_page q j i y d x a.cache o refl h in
+          let same = sym (set_at d).1 in
+          record {
+            behind = j;
+            once = subst (λ v. Once cached_page q j v a.cache) same o;
+            latest = e ∙ ap (λ v. Some v.entry.number) same;
+            unqueued_too = u;
+            before = subst (λ v. v.entry.number ≤ s) same g;
+            swaps = λ x. (set_at x).0;
+          }

@@ -8,6 +8,7 @@
 --   hits            how many accepted reads were decided hit
 --   rise            how far a store's tally rose
 use Rattle.std.specs.Prelude.{ℕ, ◌+◌, ◌-◌, ◌%◌, ◌^◌, cond, List, [], ◌∷◌, length, take, Some, None, Ok, Err, Option, Result, ◌==◌}
+use Rattle.std.specs.Result.{result_map_both}
 use Rattle.store.specs.declared.script.Access.{Access}
 use Rattle.store.specs.declared.script.Access.TheVariants.{Read, Write}
 use Rattle.store.specs.Meaning.{Meaning}
@@ -48,8 +49,7 @@ latest_number p (x ∷ xs) = cond (x.request.page == p) (Some x.answer.number) (
 
 -- an answer without what is not a store's
 abbrev pub plainly : Result Answer Refused → Result Unit Refused
-plainly (Ok a) = Ok tt
-plainly (Err f) = Err f
+plainly r = result_map_both (λ _. tt) (λ f. f) r
 
 -- a request as a call of a store
 abbrev pub access_event : Request → List ℕ → Result Answer Refused → List ℕ → StoreEvent Refused

@@ -10,10 +10,9 @@
 --   FarRepeat        a distance is reported up to 65,535
 --   Looking          what looks and peeks answer
 use Rattle.std.specs.Prelude.{◌≡◌, ℕ, Bool, true, false, List, [], ◌∷◌, map, replicate, Some, None, Ok, Err, Option}
+use Rattle.std.specs.Option.{option_map}
 use Rattle.keys.specs.Meanings.{hint_meaning}
 use Rattle.counting.specs.Rows.{row_in}
-use Rattle.counting.specs.declared.row.Row.{Row}
-use Rattle.values.specs.declared.hint_numbers.HintNumbers.{HintNumbers}
 use Rattle.store.specs.declared.script.Access.{Access}
 use Rattle.store.specs.declared.script.Access.TheVariants.{Read, Write}
 use Rattle.store.specs.Faults.{here}
@@ -63,14 +62,9 @@ pub record RefusalOrder : Type 0 where
 abbrev pub later : List Call → State
 later cs = end_state (server 1 2 2 2 8) pages_64 cs
 
--- the repeats and the distances of a row
-abbrev pub credits_by : Option (Row HintNumbers) → Option (ℕ × ℕ)
-credits_by None = None
-credits_by (Some r) = Some (r.repeats, r.distances)
-
--- of the live row of a hint value
+-- the repeats and the distances of the live row of a hint value
 abbrev pub credits : State → ℕ → Option (ℕ × ℕ)
-credits t v = credits_by (row_in hint_meaning t.tables.live (hint v))
+credits t v = option_map (λ r. (r.repeats, r.distances)) (row_in hint_meaning t.tables.live (hint v))
 
 pub record WriteCredits : Type 0 where
   pub write : credits (later (reads 10 1 ∷ writes 10 2 7 ∷ [])) 1 ≡ Some (0, 0)

@@ -1,4 +1,5 @@
 pub mod Refusals
+pub mod Texts
 pub mod State
 pub mod Pages
 pub mod Priorities

@@ -6,6 +6,7 @@
 --                  what each look answers
 --   look_answer    what any of them answers
 use Rattle.std.specs.Prelude.{ℕ, Bool, true, false, cond, List, length, Some, None, Ok, Err, Option, Result, ◌==◌}
+use Rattle.std.specs.Result.{result_map_both}
 use Rattle.values.specs.declared.hint_numbers.HintNumbers.{HintNumbers}
 use Rattle.keys.specs.Meanings.{hint_meaning, page_meaning}
 use Rattle.counting.specs.Rows.{looked}
@@ -64,8 +65,7 @@ abbrev pub whether_open : State → Result Bool Refused
 whether_open t = Ok t.is_open
 
 abbrev pub seen : {X : Type 0} → (X → Seen) → Result X Refused → Result Seen Refused
-seen f (Ok x) = Ok (f x)
-seen f (Err r) = Err r
+seen f r = result_map_both f (λ e. e) r
 
 abbrev pub look_answer : State → Look → Result Seen Refused
 look_answer t (HintCount h) = seen Count (hint_count t h)

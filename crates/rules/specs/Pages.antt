@@ -5,14 +5,14 @@
 --   without              the list without it
 --   how_many             how many things have a page
 --   in_cache, in_queue   the cached page, and the entry, that has a page
-use Rattle.std.specs.Prelude.{ℕ, suc, cond, List, [], ◌∷◌, Some, None, Option, ◌==◌}
+use Rattle.std.specs.Prelude.{ℕ, suc, cond, List, [], ◌∷◌, Option, ◌==◌}
+use Rattle.std.specs.List.{find as find_by}
 use Rattle.rules.specs.declared.entry.Entry.{Entry}
 use Rattle.rules.specs.State.{CachedPage}
 
 module _ {A : Type 0} (page : A → ℕ) where
   abbrev pub find : ℕ → List A → Option A
-  find p [] = None
-  find p (x ∷ xs) = cond (page x == p) (Some x) (find p xs)
+  find p xs = find_by (λ x. page x == p) xs
 
   abbrev pub seek : ℕ → List A → ℕ
   seek p [] = 0

@@ -6,7 +6,8 @@
 --   queue_after   the queue after a choice
 --   place         both
 --   known         the entry of a page that is cached or queued
-use Rattle.std.specs.Prelude.{ℕ, cond, List, [], ◌∷◌, ◌++◌, length, drop, Some, None, Option, nat_lt, slice_index_or, slice_set}
+use Rattle.std.specs.Prelude.{ℕ, cond, List, [], ◌∷◌, ◌++◌, length, drop, Option, nat_lt, slice_index_or, slice_set}
+use Rattle.std.specs.Option.{option_map, option_or}
 use Rattle.rules.specs.declared.entry.Entry.{Entry}
 use Rattle.rules.specs.State.{CachedPage, Places, entries}
 use Rattle.rules.specs.Pages.{entry_page, in_cache, in_queue, without}
@@ -41,9 +42,5 @@ place room d x a = record {
 }
 
 -- the cache is looked into first
-abbrev pub known_as : Option CachedPage → Option Entry → Option Entry
-known_as (Some x) o = Some x.entry
-known_as None o = o
-
 abbrev pub known : ℕ → Places → Option Entry
-known p a = known_as (in_cache p a.cache) (in_queue p a.queue)
+known p a = option_or (option_map (λ x. x.entry) (in_cache p a.cache)) (in_queue p a.queue)

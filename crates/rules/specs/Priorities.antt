@@ -3,7 +3,9 @@
 --   row_priority   what a closed row gives
 --   priority_of    a hint set's priority by the closed rows
 --   gives_way      which of two cached pages gives way first
-use Rattle.std.specs.Prelude.{ℕ, Bool, List, Some, None, Ok, Err, Option, Result, nat_lt}
+use Rattle.std.specs.Prelude.{Bool, List, Option, nat_lt}
+use Rattle.std.specs.Option.{option_map_or}
+use Rattle.std.specs.Result.{result_unwrap_or}
 use Rattle.values.specs.declared.hint_numbers.HintNumbers.{HintNumbers}
 use Rattle.keys.specs.Meanings.{hint_meaning}
 use Rattle.order.specs.Then.{first_then}
@@ -15,17 +17,12 @@ use Rattle.priority.specs.declared.priority_parts.PriorityParts.{PriorityParts}
 use Rattle.rules.specs.declared.entry.Entry.{Entry}
 
 -- parts that are refused count as the lowest; those of a row that a server has closed never are
-abbrev pub or_lowest : Result PriorityParts ℕ → PriorityParts
-or_lowest (Ok p) = p
-or_lowest (Err n) = lowest
-
 abbrev pub row_priority : Row HintNumbers → PriorityParts
-row_priority r = or_lowest (priority_from (row_parts r))
+row_priority r = result_unwrap_or (priority_from (row_parts r)) lowest
 
 -- 0 over 1 without a row
 abbrev pub priority_by : Option (Row HintNumbers) → PriorityParts
-priority_by None = lowest
-priority_by (Some r) = row_priority r
+priority_by o = option_map_or row_priority o lowest
 
 unfoldable pub priority_of : List (Row HintNumbers) → HintNumbers → PriorityParts
 priority_of closed h = priority_by (row_in hint_meaning closed h)

@@ -5,7 +5,8 @@
 --   passed_up    a store's refusal, as the server gives it
 --   refusal_of   the code's refusal in these words
 --   numbered     the code's answer in these words
-use Rattle.std.specs.Prelude.{ℕ, Some, None, Ok, Err, Option, Result}
+use Rattle.std.specs.Prelude.{ℕ, Some, None, Option, Result}
+use Rattle.std.specs.Result.{result_map_both}
 use Rattle.store.specs.declared.fault.Origin.{Origin}
 use Rattle.store.specs.Faults.{Refused as StoreRefused, refusal_of as store_refusal_of}
 use Rattle.rules.specs.declared.refusal.Refusal.{Refusal}
@@ -33,5 +34,4 @@ refusal_of (Store f) = passed_up (store_refusal_of f)
 
 -- an answer of the code, its refusal by number and origin
 abbrev pub numbered : {X : Type 0} → Result X Refusal → Result X Refused
-numbered (Ok x) = Ok x
-numbered (Err f) = Err (refusal_of f)
+numbered r = result_map_both (λ x. x) refusal_of r

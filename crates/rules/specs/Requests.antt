@@ -9,6 +9,8 @@
 --   After          what a request answers and leaves
 --   serve          a request, refused or accepted
 use Rattle.std.specs.Prelude.{ℕ, ◌+◌, ◌-◌, min, cond, List, length, Some, None, Ok, Err, Option, Result, ◌==◌, nat_lt}
+use Rattle.std.specs.Option.{option_map, option_map_or, option_or}
+use Rattle.std.specs.Result.{result_err}
 use Rattle.store.specs.declared.script.Access.{Access}
 use Rattle.store.specs.declared.script.Access.TheVariants.{Read, Write}
 use Rattle.store.specs.Faults.{Refused as StoreRefused}
@@ -25,8 +27,7 @@ use Rattle.rules.specs.Learning.{learn}
 
 -- what is cached, or else what stands in for it
 abbrev pub cached_or : {X : Type 0} → (CachedPage → X) → X → Option CachedPage → X
-cached_or f other None = other
-cached_or f other (Some x) = f x
+cached_or f other o = option_map_or f o other
 
 -- ---- refuse
 -- what the store answers: a write always asks it, a read only where the page is not cached
@@ -34,22 +35,14 @@ abbrev pub store_answer : Access → State → Meaning → ℕ → ℕ → Resul
 store_answer Write t m p len = write_answer m p len
 store_answer Read t m p len = cached_or (λ _. Ok tt) (read_answer m p len) (in_cache p t.places.cache)
 
-abbrev pub store_refusal : Result Unit StoreRefused → Option Refused
-store_refusal (Ok x) = None
-store_refusal (Err f) = Some (passed_up f)
-
 -- with a buffer of so many bytes: 2, 3 and 4, in this order
 abbrev pub own_refusal : State → ℕ → Option Refused
 own_refusal t len =
     cond t.is_open (cond (len == 256) (cond (nat_lt t.number 16777215) None (Some (plain 4))) (Some (plain 3))) (Some (plain 2))
 
-abbrev pub first_of : Option Refused → Option Refused → Option Refused
-first_of (Some f) o = Some f
-first_of None o = o
-
 -- and then the store's
 unfoldable pub refusal : State → Meaning → Request → ℕ → Option Refused
-refusal t m r len = first_of (own_refusal t len) (store_refusal (store_answer r.access t m r.page len))
+refusal t m r len = option_or (own_refusal t len) (option_map passed_up (result_err (store_answer r.access t m r.page len)))
 
 -- ---- accept, with a buffer that was given
 -- the store after it

@@ -1,4 +1,4 @@
-/// What is done with a requested page.
+/// What is done with a requested page: a `Choice` without its place, which no caller is told.
 #[derive(Clone, Copy, PartialEq, Eq, Debug)]
 pub enum Decision {
     Hit,

@@ -4,6 +4,7 @@ ghost use Rattle.std.specs.Prelude.{◌≡◌};
 ghost use Rattle.rules.specs.Refusals.{refusal_of};
 ghost use Rattle.rules.specs.declared.refusal.Refusal.TheVariants.{Store};
 
+use std::fmt;
 use store::fault::{Fault, Origin};
 
 /// It is shut (2), the buffer is not 256 bytes long (3), the last request number was given (4),
@@ -48,3 +49,21 @@ impl Refusal {
         }
     }
 }
+
+impl fmt::Display for Refusal {
+    ghost use Rattle.std.specs.Prelude.{Some};
+    ghost use Rattle.rules.specs.Texts.{refusal_text};
+
+    ghost output = { λ refusal. Some (refusal_text refusal) };
+
+    fn fmt<W: fmt::Write>(&self, f: &mut fmt::Formatter<W>) -> fmt::Result {
+        match self {
+            Refusal::Shut => f.write_str("the server is shut"),
+            Refusal::Buffer => f.write_str("the buffer is not 256 bytes long"),
+            Refusal::Exhausted => f.write_str("no request number is left"),
+            Refusal::Store(fault) => write!(f, "{fault}"),
+        }
+    }
+}
+
+impl std::error::Error for Refusal {}

@@ -2,6 +2,7 @@
 ghost use Rattle.rules.specs.Victims.{GivesWay, Victims};
 
 /// Cached pages give way in a total order, which tells any two with different numbers apart.
+#[tactic(auto, using(crate::proofs::Orders::gives_way_total))]
 pub fn pages_give_way_in_a_total_order()
     ensures { GivesWay }
 {}

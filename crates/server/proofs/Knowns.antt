@@ -1,37 +1,42 @@
--- The entries of pages, cached or queued.
-use Rattle.std.proofs.Common.{◌≡◌, ℕ, zero, suc, ◌≤◌, List, [], ◌∷◌, length, get_or, Some, None, Option, sym, refl, arith}
-use Rattle.std.specs.Option.{option_map}
-use Rattle.std.specs.List.{slice_get}
+-- The entries of pages, cached or queued, by where the searches find them.
+use Rattle.std.proofs.Common.{◌≡◌, ℕ, cond, ltb, List, [], ◌∷◌, length, Some, None, Option, sym, refl, ap, ◌∙◌, arith}
+use Rattle.std.specs.List.{remove, slice_get}
+use Rattle.std.specs.Option.{option_and_then, option_map, option_map_or}
+use Rattle.std.proofs.lemmas.Option.{slice_get_past, unwrap_or-slice_get}
+use Rattle.cache.specs.Changes.{sought}
+use Rattle.cache.proofs.Contests.{seek_position}
+use Rattle.cache.proofs.Settles.{sought_none, sought_nth}
+use Rattle.queue.proofs.Removals.{remove_past}
 use Rattle.rules.specs.declared.entry.Entry.{Entry}
 use Rattle.rules.specs.State.{CachedPage, entries}
-use Rattle.rules.specs.Placing.{known_as}
+use Rattle.rules.specs.Pages.{entry_page, find, in_cache, seek, without}
+use Rattle.rules.proofs.Sought.{nth_seek, without_seek}
 
-pub nth_entries : (cs : List CachedPage) (i : ℕ) → slice_get (entries cs) i ≡ option_map (λ x. x.entry) (slice_get cs i)
-nth_entries [] i = refl
-nth_entries (x ∷ cs) zero = refl
-nth_entries (x ∷ cs) (suc i) = nth_entries cs i
+-- ---- among entries, as those of the queue
+module _ (p : ℕ) (es : List Entry) where
+  by_seek : sought p es ≡ cond (ltb (seek entry_page p es) (length es)) (Some (seek entry_page p es)) None
+  by_seek = ap (λ i. cond (ltb i (length es)) (Some i) None) (sym (seek_position p es))
 
--- a page is known by its place in the cache, or else in the queue
-pub known_cached : (o : Option CachedPage) (q : Option Entry) (e : Entry) → option_map (λ x. x.entry) o ≡ Some e → Some e ≡ known_as o q
-known_cached (Some x) q e h = sym h
-known_cached None q e h = cc
+  pub found_by : find entry_page p es ≡ option_and_then (slice_get es) (sought p es)
+  found_by = rw by_seek (grind (arith, nth_seek entry_page p es, slice_get_past es (seek entry_page p es)))
 
-pub known_queued : (o : Option CachedPage) (q : Option Entry) → option_map (λ x. x.entry) o ≡ None → q ≡ known_as o q
-known_queued (Some x) q h = cc
-known_queued None q h = refl
+  pub removed_by : without entry_page p es ≡ option_map_or (remove es) (sought p es) es
+  removed_by = rw by_seek (grind (arith, without_seek entry_page p es, remove_past es (seek entry_page p es)))
 
--- an element that is there, or the one that stands in for it
-pub get_or_some : {A : Type 0} (xs : List A) (i : ℕ) (d x : A) → slice_get xs i ≡ Some x → x ≡ get_or xs i d
-get_or_some [] i d x h = cc
-get_or_some (y ∷ xs) zero d x h = cc
-get_or_some (y ∷ xs) (suc i) d x h = get_or_some xs i d x h
+-- ---- in the cache
+find_entries : (p : ℕ) (cs : List CachedPage) → find entry_page p (entries cs) ≡ option_map (λ x. x.entry) (in_cache p cs)
+find_entries p [] = refl
+find_entries p (x ∷ cs) = grind (arith, find_entries p cs)
 
-pub get_or_none : {A : Type 0} (xs : List A) (i : ℕ) (d : A) → slice_get xs i ≡ None → d ≡ get_or xs i d
-get_or_none [] i d h = refl
-get_or_none (y ∷ xs) zero d h = cc
-get_or_none (y ∷ xs) (suc i) d h = get_or_none xs i d h
+module _ (p : ℕ) (cs : List CachedPage) where
+  pub entry_by : option_map (λ x. x.entry) (in_cache p cs) ≡ option_and_then (slice_get (entries cs)) (sought p (entries cs))
+  entry_by = sym (find_entries p cs) ∙ found_by p (entries cs)
 
-pub past_end : {A : Type 0} (xs : List A) (i : ℕ) → slice_get xs i ≡ None → length xs ≤ i
-past_end [] i h = omega arith
-past_end (y ∷ xs) zero h = let z : ◌≡◌ {A = ℕ} 0 1 = cc in absurd (omega arith)
-past_end (y ∷ xs) (suc i) h = omega (arith, past_end xs i h)
+  pub cached_by : in_cache p cs ≡ option_and_then (slice_get cs) (sought p (entries cs))
+  cached_by = go (sought p (entries cs)) refl
+    where
+      go : (o : Option ℕ) → sought p (entries cs) ≡ o → in_cache p cs ≡ option_and_then (slice_get cs) o
+      go None e = sought_none p cs e
+      go (Some i) e = sym (sought_nth p cs i e)
+
+pub ruleset at_place = (unwrap_or-slice_get)

@@ -1,33 +1,25 @@
--- A cached page that is copied out.
-use Rattle.std.proofs.Common.{◌≡◌, ℕ, true, false, ◌&&◌, List, length, Some, None, Option, sym, refl, ap, ◌∙◌, ap₂, arith}
-use Rattle.std.specs.List.{slice_get}
-use Rattle.std.proofs.lemmas.Bool.{eq-eqb, lt-ltb}
+-- A cached page that is copied out, by where the search finds it.
+use Rattle.std.proofs.Common.{◌≡◌, ℕ, true, false, List, length, Some, None, Option, refl, arith}
+use Rattle.std.specs.Option.{option_map_or}
+use Rattle.std.proofs.lemmas.Bool.Decides.{nat_tests}
+use Rattle.std.proofs.lemmas.Option.{slice_get_cases}
 use Rattle.cache.specs.Changes.{shown, sought, takes}
-use Rattle.cache.proofs.Settles.{shown_hit, sought_none, sought_nth, sought_within}
+use Rattle.cache.proofs.Settles.{sought_none, sought_nth, sought_within}
 use Rattle.rules.specs.Pages.{in_cache}
 use Rattle.rules.specs.Requests.{cached_or}
 use Rattle.rules.specs.State.{CachedPage, entries}
-use Rattle.server.proofs.Knowns.{past_end}
 
-module _ (p : ℕ) (cs : List CachedPage) (given : List ℕ) where
-  -- the page was found at a place
-  module _ (i : ℕ) (k : length given ≡ 256) (found : sought p (entries cs) ≡ Some i) where
-    pub whole : takes cs i (length given) ≡ true
-    whole = ap₂ (λ a b. a && b) (lt-ltb i (length cs) (sought_within p cs i found)) (eq-eqb (length given) 256 k)
+module _ (p : ℕ) (cs : List CachedPage) where
+  pub copied_by : cached_or (λ _. true) false (in_cache p cs) ≡ option_map_or (λ i. takes cs i 256) (sought p (entries cs)) false
+  copied_by = go (sought p (entries cs)) refl
+    where
+      go : (o : Option ℕ) → sought p (entries cs) ≡ o → cached_or (λ _. true) false (in_cache p cs) ≡ option_map_or (λ i. takes cs i 256) o false
+      go None e = grind (arith, sought_none p cs e)
+      go (Some i) e = grind (arith, nat_tests, sought_nth p cs i e, sought_within p cs i e, (slice_get_cases cs i).1)
 
-    pub copied : (takes cs i (length given) ≡ cached_or (λ _. true) false (in_cache p cs)) × (shown cs i given ≡ cached_or (λ x. x.bytes) given (in_cache p cs))
-    copied = go (slice_get cs i) refl (sym (sought_nth p cs i found))
-      where
-        go : (o : Option CachedPage) → slice_get cs i ≡ o → in_cache p cs ≡ slice_get cs i
-            → (takes cs i (length given) ≡ cached_or (λ _. true) false (in_cache p cs)) × (shown cs i given ≡ cached_or (λ x. x.bytes) given (in_cache p cs))
-        go (Some x) e f = (
-          whole ∙ sym (ap (cached_or (λ _. true) false) (f ∙ e)),
-          shown_hit cs i x e given k ∙ sym (ap (cached_or (λ y. y.bytes) given) (f ∙ e)),
-        )
-        go None e f = absurd (omega (arith, past_end cs i e, sought_within p cs i found))
-
-  -- it was not
-  pub not_copied : sought p (entries cs) ≡ None → (false ≡ cached_or (λ _. true) false (in_cache p cs)) × (given ≡ cached_or (λ x. x.bytes) given (in_cache p cs))
-  not_copied none =
-      let e = sym (sought_none p cs none) in
-      (ap (cached_or (λ _. true) false) e, ap (cached_or (λ x. x.bytes) given) e)
+  pub shown_by : (given : List ℕ) → length given ≡ 256 → cached_or (λ x. x.bytes) given (in_cache p cs) ≡ option_map_or (λ i. shown cs i given) (sought p (entries cs)) given
+  shown_by given k = go (sought p (entries cs)) refl
+    where
+      go : (o : Option ℕ) → sought p (entries cs) ≡ o → cached_or (λ x. x.bytes) given (in_cache p cs) ≡ option_map_or (λ i. shown cs i given) o given
+      go None e = grind (arith, sought_none p cs e)
+      go (Some i) e = grind (arith, nat_tests, k, sought_nth p cs i e, sought_within p cs i e, (slice_get_cases cs i).1)

@@ -5,6 +5,5 @@ pub mod Hints
 pub mod Learning
 pub mod Parts
 pub mod Placing
-pub mod Ready
 pub mod Requests
 pub mod View

@@ -5,9 +5,9 @@
 --   cached_copy   a buffer with the copy of a cached page
 --   own_answer    what the server itself answers before the store is asked
 --   passed        what a store answers, as the server passes it up
---   then          the first refusal of two answers in a row, or else the second answer
---   if_ok         one thing where a call was accepted, another where it was refused
-use Rattle.std.specs.Prelude.{ℕ, Bool, true, false, List, Some, None, Ok, Err, Option, Result}
+use Rattle.std.specs.Prelude.{ℕ, Bool, true, false, List, Ok, Err, Result}
+use Rattle.std.specs.Option.{option_map_or}
+use Rattle.std.specs.Result.{result_map_both}
 use Rattle.rules.specs.declared.request.Request.{Request}
 use Rattle.rules.specs.Pages.{in_cache}
 use Rattle.rules.specs.Refusals.{Refused, passed_up}
@@ -29,21 +29,8 @@ abbrev pub cached_copy : State → ℕ → List ℕ → List ℕ
 cached_copy t p given = cached_or (λ x. x.bytes) given (in_cache p t.places.cache)
 
 abbrev pub passed : Result Unit StoreRefused → Result Unit Refused
-passed (Ok x) = Ok x
-passed (Err f) = Err (passed_up f)
-
-abbrev pub then : {X : Type 0} → Result Unit Refused → Result X Refused → Result X Refused
-then (Ok x) rest = rest
-then (Err f) rest = Err f
-
-abbrev pub unless : Option Refused → Result Unit Refused
-unless None = Ok tt
-unless (Some f) = Err f
+passed r = result_map_both (λ x. x) passed_up r
 
 -- with a buffer of so many bytes
 abbrev pub own_answer : State → ℕ → Result Unit Refused
-own_answer t len = unless (own_refusal t len)
-
-abbrev pub if_ok : {X F A : Type 0} → Result X F → A → A → A
-if_ok (Ok x) accepted refused = accepted
-if_ok (Err f) accepted refused = refused
+own_answer t len = option_map_or Err (own_refusal t len) (Ok tt)

@@ -10,10 +10,11 @@ use counting::table::Table;
 use rules::entry::Entry;
 use std::mem;
 use values::hint_numbers::HintNumbers;
-use values::size_numbers::SizeNumbers;
+use values::sizes::Sizes;
 
 /// The live hint rows and the page rows, which count the open window, and the hint rows of the
 /// window before.
+// `Sized` and `Countable` are no ghost fields, since they speak of the sizes, which a server holds.
 #[derive(Drop)]
 pub struct Tables<'a> {
     pub(crate) live: Table<'a, HintNumbers>,
@@ -30,6 +31,7 @@ impl<'a> Tables<'a> {
     }
 
     /// Credits the hint set of a page's earlier request with the distance to it.
+    // Two options, as in `credit_known`: a write has an earlier entry and no distance.
     fn credit(&mut self, earlier: Option<Entry>, distance: Option<u32>)
         ensures after { tables_of self.new ≡ with_live (credit_known earlier distance (tables_of self.old).live) (tables_of self.old) }
         ensures len { length (table_of self.new.live).rows ≡ length (table_of self.old.live).rows }
@@ -43,23 +45,27 @@ impl<'a> Tables<'a> {
         }
     }
 
-    /// Counts a hint set and a page at a request number.
-    fn count(&mut self, sizes: SizeNumbers, number: u32, page: u32, hints: HintNumbers)
+    /// Counts the hint set and the page of a request.
+    // The sizes are for the clauses alone.
+    #[tactic(auto, using(counting::proofs::Afters::count_accepted, counting::proofs::Afters::used_after_count), unfolding(rules::specs::Learning::count))]
+    fn count(&mut self, sizes: Sizes, new: Entry)
         requires { Countable sizes self.old }
-        ensures after { tables_of self.new ≡ count sizes number page hints (tables_of self.old) }
+        ensures after { tables_of self.new ≡ count sizes.numbers new.number new.page new.hints (tables_of self.old) }
         ensures sized { Sized sizes self.new }
     {
-        let _ = self.live.count(hints, number);
-        let _ = self.pages.count(page, number);
+        // Neither refuses, since an unfinished window has fewer requests than a table can count.
+        let _ = self.live.count(new.hints, new.number);
+        let _ = self.pages.count(new.page, new.number);
     }
 
     /// Closes a full window: its hint rows become the closed ones, and counting starts anew.
-    fn close(&mut self, sizes: SizeNumbers)
+    #[tactic(auto, unfolding(rules::specs::Learning::close))]
+    fn close(&mut self, sizes: Sizes)
         requires { Sized sizes self.old }
-        ensures after { tables_of self.new ≡ close sizes (tables_of self.old) }
+        ensures after { tables_of self.new ≡ close sizes.numbers (tables_of self.old) }
         ensures sized { Countable sizes self.new }
     {
-        if self.requests() == sizes.window {
+        if self.requests() == sizes.numbers().window {
             mem::swap(&mut self.live, &mut self.closed);
             self.live.empty();
             self.pages.empty();
@@ -69,17 +75,17 @@ impl<'a> Tables<'a> {
     /// Learns from an accepted request: credits, counts, and closes a full window.
     pub(crate) fn learn(
         &mut self,
-        sizes: SizeNumbers,
+        sizes: Sizes,
         new: Entry,
         earlier: Option<Entry>,
         distance: Option<u32>,
     )
         requires { Countable sizes self.old }
-        ensures after { tables_of self.new ≡ learn sizes new.number new.page new.hints earlier distance (tables_of self.old) }
+        ensures after { tables_of self.new ≡ learn sizes.numbers new.number new.page new.hints earlier distance (tables_of self.old) }
         ensures sized { Countable sizes self.new }
     {
         self.credit(earlier, distance);
-        self.count(sizes, new.number, new.page, new.hints);
+        self.count(sizes, new);
         self.close(sizes);
     }
 }

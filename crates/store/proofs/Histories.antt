@@ -42,15 +42,13 @@ along P k first b _ _ (more h m a p v r) = k h m (store_after a m p v) (event a 
 
 module _ (first : Meaning) where
   -- ---- the meaning: number, marks and origins, bytes, tally
-  record Same (h : List (Event Refused)) (m : Meaning) : Type 0 where
-    number : m.number ≡ first.number
-    marks : m.marks ≡ first.marks
-    origins : m.origins ≡ first.origins
+  abbrev Same : List (Event Refused) → Meaning → Type 0
+  Same h m = record { number : m.number ≡ first.number; marks : m.marks ≡ first.marks; origins : m.origins ≡ first.origins }
 
   keeps_same : Keeps Same
-  keeps_same h m _ _ (refuses a p v f e) s = record { number = s.number; marks = s.marks; origins = s.origins }
-  keeps_same h m _ _ (reads p v e) s = record { number = s.number; marks = s.marks; origins = s.origins }
-  keeps_same h m _ _ (writes p v e) s = record { number = s.number; marks = s.marks; origins = s.origins }
+  keeps_same h m _ _ (refuses a p v f e) s = s
+  keeps_same h m _ _ (reads p v e) s = s
+  keeps_same h m _ _ (writes p v e) s = s
 
   abbrev Pages : List (Event Refused) → Meaning → Type 0
   Pages h m = (p : ℕ) → m.pages p ≡ latest first.pages h p
@@ -69,11 +67,10 @@ module _ (first : Meaning) where
   keeps_tally h m _ _ (writes p v e) s = s
 
   -- ---- each call: what an accepted read gets, what the others leave
-  record Read-latest (h : List (Event Refused)) (m : Meaning) : Type 0 where
-    now : Pages h m
-    before : Throughout (GetsLatest first.pages) h
+  abbrev ReadLatest : List (Event Refused) → Meaning → Type 0
+  ReadLatest h m = record { now : Pages h m; before : Throughout (GetsLatest first.pages) h }
 
-  keeps_read_latest : Keeps Read-latest
+  keeps_read_latest : Keeps ReadLatest
   keeps_read_latest h m n x (refuses a p v f e) s = record { now = s.now; before = ((λ o. absurd (both_ways _ refl o)), s.before) }
   keeps_read_latest h m n x (reads p v e) s = record { now = s.now; before = ((λ o. s.now p), s.before) }
   keeps_read_latest h m n x (writes p v e) s = record { now = keeps_pages h m n x (writes p v e) s.now; before = ((λ o. absurd (both_ways _ refl o)), s.before) }
@@ -88,23 +85,13 @@ module _ (first : Meaning) where
   same_answer Read h m p len s = λ i. tested (s.number i) p len (readable (s.marks i p) (s.origins i p))
   same_answer Write h m p len s = λ i. tested (s.number i) p len (writable (s.marks i p) (s.origins i p))
 
-  record Answered (h : List (Event Refused)) (m : Meaning) : Type 0 where
-    now : Same h m
-    before : Throughout (AnswersAsFirst first) h
+  abbrev Answered : List (Event Refused) → Meaning → Type 0
+  Answered h m = record { now : Same h m; before : Throughout (AnswersAsFirst first) h }
 
   keeps_answered : Keeps Answered
-  keeps_answered h m n x (refuses a p v f e) s = record {
-    now = keeps_same h m n x (refuses a p v f e) s.now;
-    before = (sym e ∙ same_answer a h m p (length v) s.now, s.before);
-  }
-  keeps_answered h m n x (reads p v e) s = record {
-    now = keeps_same h m n x (reads p v e) s.now;
-    before = (sym e ∙ same_answer Read h m p (length v) s.now, s.before);
-  }
-  keeps_answered h m n x (writes p v e) s = record {
-    now = keeps_same h m n x (writes p v e) s.now;
-    before = (sym e ∙ same_answer Write h m p (length v) s.now, s.before);
-  }
+  keeps_answered h m _ _ (refuses a p v f e) s = record { now = s.now; before = (sym e ∙ same_answer a h m p (length v) s.now, s.before) }
+  keeps_answered h m _ _ (reads p v e) s = record { now = s.now; before = (sym e ∙ same_answer Read h m p (length v) s.now, s.before) }
+  keeps_answered h m _ _ (writes p v e) s = record { now = s.now; before = (sym e ∙ same_answer Write h m p (length v) s.now, s.before) }
 
   -- ---- without the refused calls
   abbrev called : Access → ℕ → List ℕ → List ℕ → Result Unit Refused → Event Refused
@@ -123,7 +110,7 @@ module _ (first : Meaning) where
   pub obeys : Lawful first → (h : List (Event Refused)) (m : Meaning) → Reaches first h m → Obeys first h m
   obeys l h m r =
       let answered = along Answered keeps_answered first (record { now = record { number = refl; marks = refl; origins = refl }; before = tt }) h m r in
-      let latest = along Read-latest keeps_read_latest first (record { now = λ p. refl; before = tt }) h m r in
+      let latest = along ReadLatest keeps_read_latest first (record { now = λ p. refl; before = tt }) h m r in
       record {
         pages = latest.now;
         tally = along Tally keeps_tally first (omega (arith, l.tally)) h m r;

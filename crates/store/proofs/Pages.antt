@@ -1,10 +1,9 @@
 -- A memory after one of its pages was replaced.
-use Rattle.std.proofs.Common.{◌≡◌, ℕ, ◌+◌, ◌-◌, ◌*◌, ◌/◌, ◌%◌, ◌^◌, ◌<◌, min, Bool, true, false, cond, eqb, ltb, List, length, get_or, take, drop, sym, refl, ap, ◌∙◌, arith, length-append, length-drop, length-take, ltb-false, ltb-true, eqb-true}
+use Rattle.std.proofs.Common.{◌≡◌, ℕ, ◌+◌, ◌-◌, ◌*◌, ◌/◌, ◌<◌, min, Bool, true, false, cond, eqb, List, length, take, drop, sym, refl, ap, ◌∙◌, arith, length-append, length-drop, length-take, eqb-true}
 use borrow.Author.Tests.{eqb-false}
 use Rattle.std.proofs.lemmas.Slice.{between_is, between-put_mid, take-put_mid_below, drop-put_mid}
-use Rattle.store.specs.Faults.{here}
 use Rattle.store.specs.Meaning.{put, written}
-use Rattle.store.specs.Makes.{page_of, put_page, mark_of, working}
+use Rattle.store.specs.Makes.{page_of, put_page, working}
 
 page_same : (bytes v : List ℕ) (p : ℕ) → p < length bytes / 256 → length v ≡ 256 → page_of (put_page bytes p v) p ≡ v
 page_same bytes v p h e =
@@ -21,15 +20,10 @@ page_below bytes v p q h k =
 page_above : (bytes v : List ℕ) (p q : ℕ) → p < length bytes / 256 → length v ≡ 256 → p < q → page_of (put_page bytes p v) q ≡ page_of bytes q
 page_above bytes v p q h e k = ap (take 256) (drop-put_mid (p * 256) 256 bytes v (q * 256) (omega arith) (omega arith) e)
 
-page_other : (bytes v : List ℕ) (p q : ℕ) (b : Bool) → ltb q p ≡ b → (q ≡ p → ⊥) → p < length bytes / 256 → length v ≡ 256
-    → page_of (put_page bytes p v) q ≡ page_of bytes q
-page_other bytes v p q true t n h e = page_below bytes v p q h (ltb-true q p t)
-page_other bytes v p q false t n h e = let k = ltb-false q p t in page_above bytes v p q h e (omega arith)
-
 page_cases : (bytes v : List ℕ) (p q : ℕ) (b : Bool) → eqb q p ≡ b → p < length bytes / 256 → length v ≡ 256
     → page_of (put_page bytes p v) q ≡ cond b v (page_of bytes q)
-page_cases bytes v p q true t h e = ap (page_of (put_page bytes p v)) (eqb-true q p t) ∙ page_same bytes v p h e
-page_cases bytes v p q false t h e = page_other bytes v p q (ltb q p) refl (eqb-false q p t) h e
+page_cases bytes v p q true t h e = grind (arith, page_same, eqb-true)
+page_cases bytes v p q false t h e = grind (arith, page_below, page_above, eqb-false)
 
 -- page p is the new one, and every other page is as it was
 pub page_of_put_page : (bytes v : List ℕ) (p q : ℕ) → p < length bytes / 256 → length v ≡ 256 → page_of (put_page bytes p v) q ≡ put (page_of bytes) p v q
@@ -41,10 +35,7 @@ length_put_page bytes v p h e = simp (length-append, length-take, length-drop) (
 -- a working store whose memory has page p replaced is the store with page p written
 pub working_put_page : (bytes marks v : List ℕ) (tally p : ℕ) → p < length bytes / 256 → length v ≡ 256
     → working (put_page bytes p v) marks tally ≡ written (working bytes marks tally) p v
-working_put_page bytes marks v tally p h e = λ i. record {
+working_put_page bytes marks v tally p h e = λ i. record (working bytes marks tally) {
   number = min (min (length_put_page bytes v p h e i / 256) (length marks)) 65536;
-  tally = tally % 2 ^ 32;
   pages = λ q. page_of_put_page bytes v p q h e i;
-  marks = λ q. mark_of (get_or marks q 0);
-  origins = here;
 }

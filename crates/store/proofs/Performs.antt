@@ -1,9 +1,7 @@
 -- A script that is being performed: what holds at the start, after each call and at the end.
-use Rattle.std.proofs.Common.{◌≡◌, ℕ, zero, suc, ◌+◌, ◌-◌, ◌<◌, ◌≤◌, min, cond, List, [], ◌∷◌, ◌++◌, length, get_or, take, drop, set, Result, sym, refl, ap, ◌∙◌, subst, append_assoc, zero-add, one-add, arith, length-append, length-drop}
+use Rattle.std.proofs.Common.{◌≡◌, ℕ, zero, suc, ◌+◌, ◌-◌, ◌<◌, ◌≤◌, min, List, [], ◌∷◌, ◌++◌, length, get_or, take, drop, set, Result, sym, refl, ap, ◌∙◌, subst, append_assoc, zero-add, arith, length-append}
 use native.Mathlib.Nat.{sub-zero}
-use lib.Seq.{take-append_seam, drop-append_seam, set_at}
-use Rattle.std.proofs.lemmas.List.{take-append-drop, length-take-le, take_more, drop_more, length_push}
-use Rattle.std.proofs.lemmas.Bool.{le-leb, lt-leb}
+use Rattle.std.proofs.lemmas.List.{take-append-drop, take_at, drop_at, set_at, length-take-le, take_more, drop_more, length-drop}
 use Rattle.store.specs.declared.script.Call.{Call}
 use Rattle.store.specs.Faults.{Refused}
 use Rattle.store.specs.Meaning.{Meaning, Lawful}
@@ -29,29 +27,20 @@ performing_none {first} {script} {memory} {old} l = record {
   counted = simp (zero-add, sub-zero);
 }
 
--- ---- a list that is put together from two
-take_seam : {X : Type 0} (xs ys zs : List X) (n : ℕ) → zs ≡ xs ++ ys → length xs ≡ n → take n zs ≡ xs
-take_seam xs ys zs n e l = ap (take n) e ∙ ap (λ i. take i (xs ++ ys)) (sym l) ∙ take-append_seam xs ys
-
-drop_seam : {X : Type 0} (xs ys zs : List X) (n : ℕ) → zs ≡ xs ++ ys → length xs ≡ n → drop n zs ≡ ys
-drop_seam xs ys zs n e l = ap (drop n) e ∙ ap (λ i. drop i (xs ++ ys)) (sym l) ∙ drop-append_seam xs ys
-
 -- there are as many answers as calls
 length_answers : (h : List (Event Refused)) → length (gathered answer_of h) ≡ length (gathered call_of h)
 length_answers [] = refl
-length_answers (e ∷ h) = length_push (gathered answer_of h) e.answer ∙ ap (λ n. n + 1) (length_answers h) ∙ sym (length_push (gathered call_of h) _)
+length_answers (e ∷ h) = simp length-append (omega (arith, length_answers h))
 
 -- ---- how many calls fit
 fitting_more : (c : Call) (script : List Call) (room places : ℕ) → c.length ≤ room → 0 < places
     → fitting (c ∷ script) room places ≡ 1 + fitting script (room - c.length) (places - 1)
 fitting_more c script room zero h k = absurd (omega arith)
-fitting_more c script room (suc places) h k =
-    ap (λ b. cond b (suc (fitting script (room - c.length) places)) 0) (le-leb c.length room h)
-    ∙ sym (one-add _) ∙ ap (λ i. 1 + fitting script (room - c.length) i) (omega arith)
+fitting_more c script room (suc places) h k = grind arith
 
 fitting_full : (c : Call) (script : List Call) (room places : ℕ) → room < c.length → fitting (c ∷ script) room places ≡ 0
 fitting_full c script room zero h = refl
-fitting_full c script room (suc places) h = ap (λ b. cond b (suc (fitting script (room - c.length) places)) 0) (lt-leb c.length room h)
+fitting_full c script room (suc places) h = grind arith
 
 fitting_over : (script : List Call) (room places : ℕ) → min (length script) places ≡ 0 → fitting script room places ≡ 0
 fitting_over [] room places h = refl
@@ -61,23 +50,18 @@ fitting_over (c ∷ script) room (suc places) h = absurd (omega arith)
 -- ---- one more call
 -- the memory before and after, where the call was given the first k bytes of the rest
 given_more : (xs rest before : List ℕ) (k : ℕ) → before ≡ xs ++ rest → before ≡ (xs ++ take k rest) ++ drop k rest
-given_more xs rest before k e = e ∙ ap (λ ys. xs ++ ys) (sym (take-append-drop k rest)) ∙ sym (append_assoc xs (take k rest) (drop k rest))
+given_more xs rest before k e = grind (arith, take-append-drop, append_assoc)
 
 -- the outcomes, of which the next becomes r
 answers_more : {X : Type 0} (xs old new : List X) (done n : ℕ) (r : X) → new ≡ xs ++ drop n old → n ≡ done → length xs ≡ done → done < length old
     → set new done r ≡ (xs ++ r ∷ []) ++ drop (done + 1) old
 answers_more xs old new done n r e i l h =
-    ap (λ ys. set ys done r) (e ∙ ap (λ ys. xs ++ ys) (ap (λ j. drop j old) i ∙ drop_more old done r h))
-    ∙ set_at xs (get_or old done r) (drop (done + 1) old) r done l
-    ∙ sym (append_assoc xs (r ∷ []) (drop (done + 1) old))
+    rw (e, i, drop_more old done r h) (set_at xs (get_or old done r) (drop (done + 1) old) r done l ∙ sym (append_assoc xs (r ∷ []) (drop (done + 1) old)))
 
 -- how many calls fit of the rest
 counted_more : (script : List Call) (done room places : ℕ) (d : Call) → done < length script → (get_or script done d).length ≤ room → 0 < places
     → done + fitting (drop done script) room places ≡ (done + 1) + fitting (drop (done + 1) script) (room - (get_or script done d).length) (places - 1)
-counted_more script done room places d h k p =
-    let next : fitting (drop done script) room places ≡ 1 + fitting (drop (done + 1) script) (room - (get_or script done d).length) (places - 1) =
-    ap (λ xs. fitting xs room places) (drop_more script done d h) ∙ fitting_more (get_or script done d) (drop (done + 1) script) room places k p in
-    omega arith
+counted_more script done room places d h k p = grind (arith, drop_more, fitting_more)
 
 -- the script's next call was made, with the memory's next bytes up to the end-th
 pub performing_more : {first m n : Meaning} {script : List Call} {before after left : List ℕ} {old new : List (Result Unit Refused)} {done at end : ℕ}
@@ -96,8 +80,8 @@ performing_more {first} {m} {n} {script} {before} {after} {left} {old} {new} {do
     let k : ℕ = end - at in
     let part : List ℕ = take k (drop at after) in
     let e : Event Refused = event c.access m c.page part in
-    let here : take at after ≡ gathered returned_of h = take_seam (gathered returned_of h) rest after at s.returned w.returned in
-    let next : drop at after ≡ rest = drop_seam (gathered returned_of h) rest after at s.returned w.returned in
+    let here : take at after ≡ gathered returned_of h = rw s.returned (take_at (gathered returned_of h) rest at w.returned) in
+    let next : drop at after ≡ rest = rw s.returned (drop_at (gathered returned_of h) rest at w.returned) in
     let sum = ap length s.given ∙ length-append (gathered given_of h) rest in
     let start = w.given in
     let long : length part ≡ k = ap (λ xs. length (take k xs)) next ∙ length-take-le k rest (omega arith) in
@@ -127,19 +111,13 @@ performing_more {first} {m} {n} {script} {before} {after} {left} {old} {new} {do
 
 -- where the script or the places are used up, and where the next buffer finds no room
 pub performing_over : {first m : Meaning} {script : List Call} {before after : List ℕ} {old new : List (Result Unit Refused)} {done at : ℕ}
-    → Performing first m script before after old new done at → done ≡ min (length script) (length old) → done ≡ fitting script (length before) (length old)
-performing_over {script = script} {before = before} {old = old} {done = done} {at = at} w e =
+    → Performing first m script before after old new done at → min (length script) (length old) ≤ done → done ≡ fitting script (length before) (length old)
+performing_over {script = script} {before = before} {old = old} {done = done} {at = at} w h =
     let none : min (length (drop done script)) (length old - done) ≡ 0 = simp length-drop (omega arith) in
     let over = fitting_over (drop done script) (length before - at) (length old - done) none in
-    let x = w.counted in
-    omega arith
+    omega (arith, w.counted)
 
 pub performing_full : {first m : Meaning} {script : List Call} {before after : List ℕ} {old new : List (Result Unit Refused)} {done at : ℕ} (d : Call)
     → Performing first m script before after old new done at → done < length script → length before - at < (get_or script done d).length
     → done ≡ fitting script (length before) (length old)
-performing_full {script = script} {before = before} {old = old} {done = done} {at = at} d w h k =
-    let full : fitting (drop done script) (length before - at) (length old - done) ≡ 0 =
-    ap (λ xs. fitting xs (length before - at) (length old - done)) (drop_more script done d h)
-    ∙ fitting_full (get_or script done d) (drop (done + 1) script) (length before - at) (length old - done) k in
-    let x = w.counted in
-    omega arith
+performing_full d w h k = grind (arith, w.counted, drop_more, fitting_full)

@@ -6,8 +6,8 @@
 --   numbered     an answer with numbers in place of causes
 --   here         the origin of a page that no pair has passed on
 --   deeper       an origin as a pair passes it on
---   deepened     an answer as a pair passes it on
-use Rattle.std.specs.Prelude.{ℕ, ◌+◌, min, Ok, Err, Result}
+use Rattle.std.specs.Prelude.{ℕ, ◌+◌, min, Err, Result}
+use Rattle.std.specs.Result.{result_map_both}
 use Rattle.store.specs.declared.fault.Origin.{Origin}
 use Rattle.store.specs.declared.fault.Fault.{Fault}
 use Rattle.store.specs.declared.fault.FaultNumber.{FaultNumber}
@@ -35,8 +35,7 @@ refusal_of f = record { number = number_of f.number; origin = f.origin }
 
 -- an answer of the code, its fault by number and origin
 abbrev pub numbered : {X : Type 0} → Result X Fault → Result X Refused
-numbered (Ok x) = Ok x
-numbered (Err f) = Err (refusal_of f)
+numbered r = result_map_both (λ x. x) refusal_of r
 
 -- page p itself, no pair above it
 abbrev pub here : ℕ → Origin
@@ -44,9 +43,4 @@ here p = record { page = p; depth = 0 }
 
 -- one pair deeper, but never past 255
 abbrev pub deeper : Origin → Origin
-deeper o = record { page = o.page; depth = min (o.depth + 1) 255 }
-
--- a side's answer as its pair gives it
-abbrev pub deepened : Result Unit Refused → Result Unit Refused
-deepened (Ok x) = Ok x
-deepened (Err f) = refuse f.number (deeper f.origin)
+deeper o = record o { depth = min (o.depth + 1) 255 }

@@ -5,7 +5,7 @@
 --   accepted_reads    how many reads were accepted
 --   Throughout        each call obeys a law after those before it
 --   Obeys             all the laws
-use Rattle.std.specs.Prelude.{◌≡◌, ℕ, ◌+◌, ◌%◌, ◌^◌, Bool, true, false, cond, ◌&&◌, List, [], ◌∷◌, length, is_ok, ◌==◌}
+use Rattle.std.specs.Prelude.{◌≡◌, ℕ, ◌+◌, ◌%◌, ◌^◌, Bool, true, false, if◌then◌else◌, ◌&&◌, List, [], ◌∷◌, length, filter, is_ok, ◌==◌}
 use Rattle.store.specs.declared.script.Access.{Access}
 use Rattle.store.specs.declared.script.Access.TheVariants.{Read, Write}
 use Rattle.store.specs.Faults.{Refused}
@@ -23,8 +23,7 @@ is_write Write = true
 
 -- the calls that were not refused
 abbrev pub accepted : {F : Type 0} → List (Event F) → List (Event F)
-accepted [] = []
-accepted (e ∷ h) = cond (is_ok e.answer) (e ∷ accepted h) (accepted h)
+accepted h = filter (λ e. is_ok e.answer) h
 
 -- whether the call is an accepted write of page p
 abbrev pub wrote : {F : Type 0} → Event F → ℕ → Bool
@@ -37,12 +36,11 @@ has_read e = is_ok e.answer && is_read e.access
 -- the bytes of the latest accepted write of page p, or the first bytes
 abbrev pub latest : {F : Type 0} → (ℕ → List ℕ) → List (Event F) → ℕ → List ℕ
 latest first [] p = first p
-latest first (e ∷ h) p = cond (wrote e p) e.given (latest first h p)
+latest first (e ∷ h) p = if wrote e p then e.given else latest first h p
 
 -- how many reads were accepted
 abbrev pub accepted_reads : {F : Type 0} → List (Event F) → ℕ
-accepted_reads [] = 0
-accepted_reads (e ∷ h) = cond (has_read e) (accepted_reads h + 1) (accepted_reads h)
+accepted_reads h = length (filter has_read h)
 
 -- each call obeys P after those before it
 abbrev pub Throughout : {E : Type 0} → (List E → E → Type 0) → List E → Type 0

@@ -4,7 +4,7 @@
 --   read_answer, read_buffer,
 --   read_after                      a read: its answer, the buffer and the store after it
 --   write_answer, write_after       a write: its answer, and the store after it
-use Rattle.std.specs.Prelude.{◌≡◌, ℕ, ◌+◌, ◌%◌, ◌^◌, ◌<◌, ◌≤◌, cond, List, length, is_ok, Ok, Result, ◌==◌, nat_lt}
+use Rattle.std.specs.Prelude.{◌≡◌, ℕ, ◌+◌, ◌%◌, ◌^◌, ◌<◌, ◌≤◌, if◌then◌else◌, List, length, is_ok, Ok, Result, ◌==◌, nat_lt}
 use Rattle.store.specs.declared.fault.Origin.{Origin}
 use Rattle.store.specs.declared.mark.Mark.{Mark}
 use Rattle.store.specs.declared.mark.Mark.TheVariants.{Open, Sealed, Dead}
@@ -42,11 +42,11 @@ writable Dead o = refuse 6 o
 
 -- refusal 3 unless the buffer has 256 bytes
 abbrev pub test_length : {X : Type 0} → ℕ → ℕ → Result X Refused → Result X Refused
-test_length p len rest = cond (len == 256) rest (refuse 3 (here p))
+test_length p len rest = if len == 256 then rest else refuse 3 (here p)
 
 -- refusal 5 unless there is a page p
 abbrev pub test_number : {X : Type 0} → ℕ → ℕ → Result X Refused → Result X Refused
-test_number number p rest = cond (nat_lt p number) rest (refuse 5 (here p))
+test_number number p rest = if nat_lt p number then rest else refuse 5 (here p)
 
 -- the tests of every call on page p with a buffer of len bytes, in their order
 abbrev pub tested : {X : Type 0} → ℕ → ℕ → ℕ → Result X Refused → Result X Refused
@@ -61,23 +61,23 @@ write_answer m p len = tested m.number p len (writable (m.marks p) (m.origins p)
 
 -- one more read, from 2^32 - 1 to 0
 abbrev pub tallied : Meaning → Meaning
-tallied m = record { number = m.number; tally = (m.tally + 1) % 2 ^ 32; pages = m.pages; marks = m.marks; origins = m.origins }
+tallied m = record m { tally = (m.tally + 1) % 2 ^ 32 }
 
 -- page p becomes v, and every other page stays
 abbrev pub put : (ℕ → List ℕ) → ℕ → List ℕ → ℕ → List ℕ
-put pages p v q = cond (q == p) v (pages q)
+put pages p v q = if q == p then v else pages q
 
 -- the store with page p written
 abbrev pub written : Meaning → ℕ → List ℕ → Meaning
-written m p v = record { number = m.number; tally = m.tally; pages = put m.pages p v; marks = m.marks; origins = m.origins }
+written m p v = record m { pages = put m.pages p v }
 
 -- after a read of page p: the buffer, which held buf, and the store
 abbrev pub read_buffer : Meaning → ℕ → List ℕ → List ℕ
-read_buffer m p buf = cond (is_ok (read_answer m p (length buf))) (m.pages p) buf
+read_buffer m p buf = if is_ok (read_answer m p (length buf)) then m.pages p else buf
 
 abbrev pub read_after : Meaning → ℕ → ℕ → Meaning
-read_after m p len = cond (is_ok (read_answer m p len)) (tallied m) m
+read_after m p len = if is_ok (read_answer m p len) then tallied m else m
 
 -- after a write of v to page p: the store
 abbrev pub write_after : Meaning → ℕ → List ℕ → Meaning
-write_after m p v = cond (is_ok (write_answer m p (length v))) (written m p v) m
+write_after m p v = if is_ok (write_answer m p (length v)) then written m p v else m

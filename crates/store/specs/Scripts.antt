@@ -2,7 +2,7 @@
 --   gathered     what the calls of a history have, from the oldest to the newest
 --   fitting      how many calls of a script there is room for
 --   Performed    what performing a script did
-use Rattle.std.specs.Prelude.{◌≡◌, ℕ, zero, suc, ◌-◌, cond, List, [], ◌∷◌, ◌++◌, length, drop, Result, nat_le}
+use Rattle.std.specs.Prelude.{◌≡◌, ℕ, zero, suc, ◌-◌, if◌then◌else◌, List, [], ◌∷◌, ◌++◌, length, drop, Result, nat_le}
 use Rattle.store.specs.declared.script.Call.{Call}
 use Rattle.store.specs.Faults.{Refused}
 use Rattle.store.specs.Meaning.{Meaning}
@@ -30,7 +30,7 @@ answer_of e = e.answer ∷ []
 abbrev pub fitting : List Call → ℕ → ℕ → ℕ
 fitting [] room places = 0
 fitting (c ∷ script) room zero = 0
-fitting (c ∷ script) room (suc places) = cond (nat_le c.length room) (suc (fitting script (room - c.length) places)) 0
+fitting (c ∷ script) room (suc places) = if nat_le c.length room then suc (fitting script (room - c.length) places) else 0
 
 -- The calls of a script were made of a store that meant first and then last: there is a history of just these calls. The memory before
 -- was their buffers as given, one after another, and the memory after is the buffers as returned, with the same rest behind them. The new

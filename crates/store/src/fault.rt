@@ -1,7 +1,9 @@
 //! Why a store refuses, and where.
 
 ghost use Rattle.std.specs.Prelude.{◌≡◌};
-ghost use Rattle.store.specs.Faults.{number_of, numbered, deepened, here};
+ghost use Rattle.store.specs.Faults.{number_of, here, deeper};
+
+use std::fmt;
 
 /// Where a page lies: its number in the store at the bottom, and how many pairs stand above that.
 #[derive(Clone, Copy, PartialEq, Eq, Debug)]
@@ -43,7 +45,33 @@ impl Fault {
             origin: Origin::here(page),
         }
     }
+
+    /// A side's refusal as its pair passes it on.
+    pub(crate) fn deeper(self) -> Fault
+        ensures { result ≡ record self { origin = deeper self.origin } }
+    {
+        Fault {
+            origin: self.origin.deeper(),
+            ..self
+        }
+    }
 }
+
+impl fmt::Display for Fault {
+    ghost use Rattle.std.specs.Prelude.{Some};
+    ghost use Rattle.store.specs.Texts.{fault_text};
+
+    ghost output = { λ fault. Some (fault_text fault) };
+
+    fn fmt<W: fmt::Write>(&self, f: &mut fmt::Formatter<W>) -> fmt::Result {
+        let number = self.number();
+        let page = self.origin.page;
+        let depth = self.origin.depth;
+        write!(f, "refused {number} at page {page}, depth {depth}")
+    }
+}
+
+impl std::error::Error for Fault {}
 
 impl Origin {
     /// A page of a store that no pair stands above.
@@ -52,23 +80,14 @@ impl Origin {
     {
         Origin { page, depth: 0 }
     }
-}
 
-/// A side's answer as its pair passes it on: a fault lies one pair deeper.
-pub(crate) fn deepened(answer: Result<(), Fault>) -> Result<(), Fault>
-    ensures { numbered result ≡ deepened (numbered answer) }
-{
-    match answer {
-        Ok(()) => Ok(()),
-        Err(Fault { number, origin }) => {
-            let depth = origin.depth.saturating_add(1);
-            Err(Fault {
-                number,
-                origin: Origin {
-                    page: origin.page,
-                    depth,
-                },
-            })
+    /// The same page under one more pair.
+    fn deeper(self) -> Origin
+        ensures { result ≡ deeper self }
+    {
+        Origin {
+            depth: self.depth.saturating_add(1),
+            ..self
         }
     }
 }

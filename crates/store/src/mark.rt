@@ -16,42 +16,42 @@ pub enum Mark {
 }
 
 /// The mark that a mark byte stands for.
-pub fn mark_of(byte: u8) -> Mark
-    ensures { result ≡ mark_of byte }
-{
-    match byte {
-        0 => Mark::Open,
-        1 => Mark::Sealed,
-        _ => Mark::Dead,
+impl From<u8> for Mark {
+    ghost from_gives = { λ byte mark. mark ≡ mark_of byte };
+
+    fn from(byte: u8) -> Mark {
+        match byte {
+            0 => Mark::Open,
+            1 => Mark::Sealed,
+            _ => Mark::Dead,
+        }
     }
 }
 
-/// Refuses a read of a dead page.
-pub(crate) fn readable(mark: Mark, origin: Origin) -> Result<(), Fault>
-    ensures { numbered result ≡ readable mark origin }
-{
-    match mark {
-        Mark::Open | Mark::Sealed => Ok(()),
-        Mark::Dead => Err(Fault {
-            number: FaultNumber::Dead,
-            origin,
-        }),
+impl Mark {
+    /// Refuses a read of a dead page.
+    pub(crate) fn readable(self, origin: Origin) -> Result<(), Fault>
+        ensures { numbered result ≡ readable self origin }
+    {
+        match self {
+            Mark::Open | Mark::Sealed => Ok(()),
+            Mark::Dead => Err(Fault {
+                number: FaultNumber::Dead,
+                origin,
+            }),
+        }
     }
-}
 
-/// Refuses a write to a dead or sealed page.
-pub(crate) fn writable(mark: Mark, origin: Origin) -> Result<(), Fault>
-    ensures { numbered result ≡ writable mark origin }
-{
-    match mark {
-        Mark::Open => Ok(()),
-        Mark::Sealed => Err(Fault {
-            number: FaultNumber::Sealed,
-            origin,
-        }),
-        Mark::Dead => Err(Fault {
-            number: FaultNumber::Dead,
-            origin,
-        }),
+    /// Refuses a write to a sealed page, and to one that is not read.
+    pub(crate) fn writable(self, origin: Origin) -> Result<(), Fault>
+        ensures { numbered result ≡ writable self origin }
+    {
+        match self {
+            Mark::Open | Mark::Dead => self.readable(origin),
+            Mark::Sealed => Err(Fault {
+                number: FaultNumber::Sealed,
+                origin,
+            }),
+        }
     }
 }

@@ -1,9 +1,9 @@
 //! Pages in memory, and the tests that come first in every call.
 
-ghost use Rattle.std.specs.Prelude.{◌≡◌, ◌/◌, ◌<◌, min, length, Ok, OnOk};
+ghost use Rattle.std.specs.Prelude.{◌≡◌, ◌/◌, min, length, Ok};
 ghost use Rattle.store.specs.Faults.{numbered};
 ghost use Rattle.store.specs.Meaning.{test_length, test_number, tested};
-ghost use Rattle.store.specs.Makes.{page_of, put_page};
+ghost use Rattle.store.specs.Makes.{page_out, page_in};
 
 use crate::fault::{Fault, FaultNumber};
 
@@ -21,9 +21,9 @@ pub(crate) fn whole_pages(bytes: &[u8]) -> usize
 }
 
 /// Refuses a buffer that is not a page long.
+// The length is no array type, which a pair could not pass on to its sides.
 pub(crate) fn test_length(page: u32, length: usize) -> Result<(), Fault>
-    ensures answer { numbered result ≡ test_length page length (Ok tt) }
-    ensures passed { OnOk result (length ≡ 256) }
+    ensures { numbered result ≡ test_length page length (Ok tt) }
 {
     if length != PAGE_BYTES {
         return Err(Fault::here(FaultNumber::Buffer, page));
@@ -33,8 +33,7 @@ pub(crate) fn test_length(page: u32, length: usize) -> Result<(), Fault>
 
 /// Refuses a page that is not there.
 pub(crate) fn test_number(number: u32, page: u32) -> Result<(), Fault>
-    ensures answer { numbered result ≡ test_number number page (Ok tt) }
-    ensures passed { OnOk result (page < number) }
+    ensures { numbered result ≡ test_number number page (Ok tt) }
 {
     if page >= number {
         return Err(Fault::here(FaultNumber::NoPage, page));
@@ -44,27 +43,34 @@ pub(crate) fn test_number(number: u32, page: u32) -> Result<(), Fault>
 
 /// The tests that come first in every call, in their order.
 pub(crate) fn test(number: u32, page: u32, length: usize) -> Result<(), Fault>
-    ensures answer { numbered result ≡ tested number page length (Ok tt) }
-    ensures passed { OnOk result ((length ≡ 256) × (page < number)) }
+    ensures { numbered result ≡ tested number page length (Ok tt) }
 {
     test_length(page, length)?;
     test_number(number, page)
 }
 
-/// Copies a page out of a memory.
-pub(crate) fn page_out(bytes: &[u8], page: u32, buffer: &mut [u8])
-    requires { (page < length bytes.now / 256) × (length buffer.old ≡ 256) }
-    ensures { buffer.new ≡ page_of bytes.now page }
+/// Copies the page at a place out of a memory.
+///
+/// Where the memory has no such page, or the buffer is not a page long, nothing changes.
+pub fn page_out(bytes: &[u8], place: usize, buffer: &mut [u8])
+    ensures { buffer.new ≡ page_out bytes.now place buffer.old }
 {
-    let start = page as usize * PAGE_BYTES;
-    buffer.copy_from_slice(&bytes[start..start + PAGE_BYTES]);
+    if place < bytes.len() / PAGE_BYTES && buffer.len() == PAGE_BYTES {
+        // by range, since `nth` of the chunks would walk to the place
+        let start = place * PAGE_BYTES;
+        buffer.copy_from_slice(&bytes[start..start + PAGE_BYTES]);
+    }
 }
 
-/// Copies a page into a memory.
-pub(crate) fn page_in(bytes: &mut [u8], page: u32, new: &[u8])
-    requires { (page < length bytes.old / 256) × (length new.now ≡ 256) }
-    ensures { bytes.new ≡ put_page bytes.old page new.now }
+/// Copies a page into a memory, at a place.
+///
+/// Where the memory has no such page, or the new one is not a page long, nothing changes.
+pub fn page_in(bytes: &mut [u8], place: usize, new: &[u8])
+    ensures { bytes.new ≡ page_in bytes.old place new.now }
 {
-    let start = page as usize * PAGE_BYTES;
-    bytes[start..start + PAGE_BYTES].copy_from_slice(new);
+    if place < bytes.len() / PAGE_BYTES && new.len() == PAGE_BYTES {
+        let start = place * PAGE_BYTES;
+        // by range, since what is written through `as_chunks_mut` is unknown afterwards
+        bytes[start..start + PAGE_BYTES].copy_from_slice(new);
+    }
 }

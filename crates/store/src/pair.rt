@@ -1,14 +1,13 @@
 //! Two stores as one.
 
-ghost use Rattle.std.specs.Prelude.{◌≡◌, ◌/◌, ◌%◌, refl};
+ghost use Rattle.std.specs.Prelude.{◌≡◌, refl};
 ghost use Rattle.store.specs.Makes.{pair};
 ghost use Rattle.store.specs.Lawfuls.{pair_lawful};
 ghost use Rattle.store.specs.Views.{pair_of};
 
 use crate::fault::Fault;
-use crate::page::MOST_PAGES;
+use crate::page::{self, MOST_PAGES};
 use crate::store::Store;
-use crate::{fault, page};
 
 /// Even pages lie in the left store, odd ones in the right.
 #[derive(Drop)]
@@ -20,28 +19,29 @@ pub struct Pair<L, R> {
 impl<L: Store, R: Store> Pair<L, R> {
     /// A store of the pages that both sides have.
     pub fn new(left: L, right: R) -> Self
-        ensures { pair_of L.Store.meaning R.Store.meaning result ≡ pair (L.Store.meaning left) (R.Store.meaning right) }
+        ensures { pair_of L.meaning R.meaning result ≡ pair (L.meaning left) (R.meaning right) }
     {
         Pair { left, right }
     }
 }
 
+// The sides differ in type, so a read and a write each choose theirs: an enum for the side is longer.
 impl<L: Store, R: Store> Store for Pair<L, R> {
-    ghost number = { λ s. (pair_of L.Store.meaning R.Store.meaning s).number };
+    ghost number = { λ s. (pair_of L.meaning R.meaning s).number };
 
-    ghost tally = { λ s. (pair_of L.Store.meaning R.Store.meaning s).tally };
+    ghost tally = { λ s. (pair_of L.meaning R.meaning s).tally };
 
-    ghost pages = { λ s. (pair_of L.Store.meaning R.Store.meaning s).pages };
+    ghost pages = { λ s. (pair_of L.meaning R.meaning s).pages };
 
-    ghost marks = { λ s. (pair_of L.Store.meaning R.Store.meaning s).marks };
+    ghost marks = { λ s. (pair_of L.meaning R.meaning s).marks };
 
-    ghost origins = { λ s. (pair_of L.Store.meaning R.Store.meaning s).origins };
+    ghost origins = { λ s. (pair_of L.meaning R.meaning s).origins };
 
-    ghost meaning = { pair_of L.Store.meaning R.Store.meaning };
+    ghost meaning = { pair_of L.meaning R.meaning };
 
     ghost parts = { λ _. refl };
 
-    ghost lawful = { λ s. pair_lawful (L.Store.lawful s.left) (R.Store.lawful s.right) };
+    ghost lawful = { λ s. pair_lawful (L.lawful s.left) (R.lawful s.right) };
 
     fn count(&self) -> u32 {
         let pages = 2 * self.left.count().min(self.right.count());
@@ -59,7 +59,7 @@ impl<L: Store, R: Store> Store for Pair<L, R> {
         } else {
             self.right.read((page - 1) / 2, buffer)
         };
-        fault::deepened(answer)
+        answer.map_err(Fault::deeper)
     }
 
     fn write(&mut self, page: u32, bytes: &[u8]) -> Result<(), Fault> {
@@ -69,6 +69,6 @@ impl<L: Store, R: Store> Store for Pair<L, R> {
         } else {
             self.right.write((page - 1) / 2, bytes)
         };
-        fault::deepened(answer)
+        answer.map_err(Fault::deeper)
     }
 }

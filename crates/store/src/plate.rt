@@ -52,7 +52,7 @@ impl<'a> Store for PlateStore<'a> {
 
     fn read(&mut self, page: u32, buffer: &mut [u8]) -> Result<(), Fault> {
         page::test(self.count(), page, buffer.len())?;
-        page::page_out(self.bytes, page, buffer);
+        page::page_out(self.bytes, page as usize, buffer);
         self.tally = self.tally.wrapping_add(1);
         Ok(())
     }

@@ -12,6 +12,7 @@ use crate::fault::Fault;
 ///
 /// The first five ghost members say what a store holds: the number of its pages, the tally of its reads, and of each page the bytes, the mark
 /// and the origin. `meaning` is the five as one value, which the calls speak of, and `lawful` has its bounds.
+// Each `impl` gives every member, since neither a default nor an `impl` can name another member.
 pub trait Store {
     ghost number: { Self → ℕ };
 

@@ -6,6 +6,7 @@ ghost use Rattle.store.specs.Meaning.{read_answer, write_answer};
 ghost use Rattle.store_cases.specs.Buried.{buried, buried_lawful};
 
 use store::fault::{Fault, FaultNumber, Origin};
+use store::page::PAGE_BYTES;
 use store::store::Store;
 
 /// Two dead pages under 255 pairs, with a tally one below its turn.
@@ -51,23 +52,16 @@ fn refusal(page: u32, length: usize) -> Fault
     ensures write { Err (refusal_of result) ≡ write_answer buried page length }
 {
     let here = Origin { page, depth: 0 };
-    if length != store::page::PAGE_BYTES {
-        return Fault {
-            number: FaultNumber::Buffer,
-            origin: here,
-        };
-    }
-    if page >= 2 {
-        return Fault {
-            number: FaultNumber::NoPage,
-            origin: here,
-        };
-    }
-    Fault {
-        number: FaultNumber::Dead,
-        origin: Origin {
+    let (number, origin) = if length != PAGE_BYTES {
+        (FaultNumber::Buffer, here)
+    } else if page >= 2 {
+        (FaultNumber::NoPage, here)
+    } else {
+        let deepest = Origin {
             page: 9,
             depth: 255,
-        },
-    }
+        };
+        (FaultNumber::Dead, deepest)
+    };
+    Fault { number, origin }
 }

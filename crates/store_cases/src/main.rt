@@ -4,6 +4,7 @@
 use crate::buried::Buried;
 use std::alloc::Global;
 use store::fault::{Fault, FaultNumber, Origin};
+use store::page::PAGE_BYTES;
 use store::pair::Pair;
 use store::plate::PlateStore;
 use store::script::{Access, Call, perform};
@@ -17,7 +18,7 @@ fn read(page: u32) -> Call {
     Call {
         access: Access::Read,
         page,
-        length: 256,
+        length: PAGE_BYTES,
     }
 }
 
@@ -25,24 +26,19 @@ fn read(page: u32) -> Call {
 fn write(page: u32) -> Call {
     Call {
         access: Access::Write,
-        page,
-        length: 256,
+        ..read(page)
     }
 }
 
 /// The same call with a buffer of another length.
 fn with(call: Call, length: usize) -> Call {
-    Call {
-        access: call.access,
-        page: call.page,
-        length,
-    }
+    Call { length, ..call }
 }
 
 /// Fills each page with its number, from `first` on.
 fn number_pages(bytes: &mut [u8], first: usize) {
-    for (i, byte) in bytes.iter_mut().enumerate() {
-        *byte = ((i / store::page::PAGE_BYTES).wrapping_add(first) % 256) as u8;
+    for (i, page) in bytes.chunks_mut(PAGE_BYTES).enumerate() {
+        page.fill((i.wrapping_add(first) % 256) as u8);
     }
 }
 

@@ -22,12 +22,7 @@ impl fmt::Display for Answer {
     fn fmt<W: fmt::Write>(&self, f: &mut fmt::Formatter<W>) -> fmt::Result {
         match self.0 {
             Ok(()) => write!(f, "ok"),
-            Err(fault) => {
-                let number = fault.number();
-                let page = fault.origin.page;
-                let depth = fault.origin.depth;
-                write!(f, "refused {number} at page {page}, depth {depth}")
-            }
+            Err(fault) => write!(f, "{fault}"),
         }
     }
 }
@@ -56,7 +51,8 @@ fn write<S: Store>(
     Ok(())
 }
 
-/// Makes calls one after another, and shows the number of pages and the tally at the end.
+/// Makes calls one after another, and shows the number of pages and the tally at the end. A read
+/// and a write show different things, so each call is made here and not by the script.
 pub fn calls<S: Store>(
     rt: &HostRuntime,
     title: &str,
@@ -84,11 +80,11 @@ pub fn outcomes(rt: &HostRuntime, outcomes: &[Result<(), Fault>]) -> anyhow::Res
 
 /// Shows the first byte of each call's part of a memory.
 pub fn buffers(rt: &HostRuntime, calls: &[Call], memory: &[u8]) -> anyhow::Result<()> {
-    let mut start = 0;
+    let mut rest = memory;
     for call in calls {
-        let first = memory.get(start).copied().unwrap_or(0);
+        let first = rest.first().copied().unwrap_or(0);
         println!(rt; "  a buffer begins with {first}")?;
-        start = call.length.wrapping_add(start);
+        rest = rest.get(call.length..).unwrap_or(&[]);
     }
     Ok(())
 }

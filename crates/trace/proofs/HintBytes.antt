@@ -1,16 +1,17 @@
 -- The hint words of a request, as they are written and as they are read.
-use Rattle.std.proofs.Common.{◌≡◌, ℕ, zero, suc, ◌+◌, ◌*◌, ◌/◌, ◌^◌, ◌<◌, List, [], ◌∷◌, ◌++◌, length, get_or, take, Ok, Err, Result, sym, refl, ap, ◌∙◌, subst, arith}
+use Rattle.std.proofs.Common.{◌≡◌, ℕ, zero, suc, ◌+◌, ◌*◌, ◌/◌, ◌^◌, ◌<◌, List, [], ◌∷◌, ◌++◌, length, get_or, take, Ok, sym, refl, ap, ◌∙◌, subst, arith}
 use Rattle.std.specs.List.{flat_map, AllByRecursion}
 use Rattle.std.proofs.lemmas.List.FromFn.{fill_by_all}
 use Rattle.std.proofs.lemmas.List.{take_at}
-use Rattle.std.proofs.lemmas.Bool.{and_parts, eqb-true}
 use Rattle.trace.specs.declared.word.Expected.TheVariants.{Hint}
 use Rattle.trace.specs.declared.word.Word.{Word}
+use Rattle.trace.specs.declared.word.kind.Kind.TheVariants as kinds
 use Rattle.trace.specs.Encoding.{word}
 use Rattle.trace.specs.Hints.{value_at, values_of}
-use Rattle.trace.specs.Items.{hint_words, then}
-use Rattle.trace.specs.Words.{word_at}
-use Rattle.trace.proofs.Encodings.{Bytes, WordRead, err_ok, word_complete, word_sound}
+use Rattle.trace.specs.Items.{hint_words}
+use Rattle.trace.specs.Lefts.{Left}
+use Rattle.trace.proofs.Encodings.{Bytes, WordRead, word_complete, word_sound}
+use Rattle.trace.proofs.Thens.{then_ok, then_to}
 
 -- hint words, one for each value
 abbrev pub hint_bytes : List ℕ → List ℕ
@@ -44,12 +45,6 @@ values_in_front vs bs after n e many =
     ap values_of (ap (take (4 * n)) e ∙ take_at (hint_bytes vs) after (4 * n) (length_hint_bytes vs ∙ ap (λ m. 4 * m) many))
     ∙ values_of_hints vs
 
--- what answered, where the answer made from it is no fault
-pub then_ok : {X Y F : Type 0} (r : Result X F) (k : X → Result Y F) (y : Y) → then r k ≡ Ok y →
-    (x : X) × (r ≡ Ok x) × (k x ≡ Ok y)
-then_ok (Ok x) k y e = (x, refl, e)
-then_ok (Err f) k y e = absurd (err_ok f y e)
-
 pub record HintsWritten (n : ℕ) (bs rest : List ℕ) : Type 0 where
   pub values : List ℕ
   pub many : length values ≡ n
@@ -59,34 +54,27 @@ pub record HintsWritten (n : ℕ) (bs rest : List ℕ) : Type 0 where
 
 -- a hint word that is read has its value and nothing else
 hint_word : (bs : List ℕ) (w : Word) (rest : List ℕ) → WordRead Hint bs w rest → bs ≡ word 3 0 0 w.value ++ rest
-hint_word bs w rest r =
-    let bits = and_parts _ _ (and_parts _ _ r.bits).0 in
-    let kind : w.kind ≡ 3 = eqb-true w.kind 3 r.kind in
-    let client : w.client ≡ 0 = eqb-true w.client 0 bits.0 in
-    let count : w.count ≡ 0 = eqb-true w.count 0 bits.1 in
-    r.written.bytes ∙ cc
+hint_word bs w rest r = grind (arith, r.bytes, r.kind, r.bits)
 
-pub hints_sound : (n : ℕ) (bs : List ℕ) (place : ℕ) (rest : List ℕ) → Bytes bs → hint_words n bs place ≡ Ok rest → HintsWritten n bs rest
-hints_sound zero bs place rest b h =
-    let same : bs ≡ rest = cc in
-    record { values = []; many = refl; narrow = tt; bytes = same; others = subst Bytes same b }
-hints_sound (suc n) bs place rest b h =
-    let s = then_ok (word_at Hint bs place) (λ t. hint_words n t.1 (place + 1)) rest h in
-    let w = s.0.0 in
-    let r = word_sound Hint bs place w s.0.1 b s.1 in
-    let i = hints_sound n s.0.1 (place + 1) rest r.written.others s.2 in
+pub hints_sound : (n : ℕ) (l m : Left) → Bytes l.rest → hint_words n l ≡ Ok m → HintsWritten n l.rest m.rest
+hints_sound zero l m b h =
+    let same : l ≡ m = cc in
+    subst (λ x. HintsWritten 0 l.rest x.rest) same (record { values = []; many = refl; narrow = tt; bytes = refl; others = b })
+hints_sound (suc n) l m b h =
+    then_ok _ _ _ h (λ t first after.
+    let r = word_sound Hint l t.0 t.1 b first in
+    let i = hints_sound n t.1 m r.others after in
     record {
-      values = w.value ∷ i.values;
+      values = t.0.value ∷ i.values;
       many = ap suc i.many;
-      narrow = (r.written.narrow.value, i.narrow);
-      bytes = hint_word bs w s.0.1 r ∙ ap (λ x. word 3 0 0 w.value ++ x) i.bytes;
+      narrow = (r.value, i.narrow);
+      bytes = hint_word l.rest t.0 t.1.rest r ∙ ap (λ x. word 3 0 0 t.0.value ++ x) i.bytes;
       others = i.others;
-    }
+    })
 
 pub hints_complete : (vs : List ℕ) → AllByRecursion (λ v. v < 2 ^ 16) vs → (rest : List ℕ) (place : ℕ) →
-    hint_words (length vs) (hint_bytes vs ++ rest) place ≡ Ok rest
-hints_complete [] h rest place = refl
+    hint_words (length vs) (record { rest = hint_bytes vs ++ rest; place = place }) ≡ Ok (record { rest = rest; place = place + length vs })
+hints_complete [] h rest place = ap (λ p. Ok (record { rest = rest; place = p })) (let e : place ≡ place + 0 = omega arith in e)
 hints_complete (v ∷ vs) h rest place =
-    ap (λ r. then r (λ t. hint_words (length vs) t.1 (place + 1)))
-    (word_complete Hint 3 0 0 v (omega arith) (omega arith) (omega arith) h.0 refl refl (hint_bytes vs ++ rest) place)
-    ∙ hints_complete vs h.1 rest (place + 1)
+    then_to _ _ _ _ (word_complete Hint kinds.Hint 0 0 v (omega arith) (omega arith) h.0 refl refl (hint_bytes vs ++ rest) place)
+    (hints_complete vs h.1 rest (place + 1) ∙ ap (λ p. Ok (record { rest = rest; place = p })) (let e : place + 1 + length vs ≡ place + suc (length vs) = omega arith in e))

@@ -4,7 +4,8 @@ use Rattle.std.proofs.lemmas.List.{length-append, length_push}
 use Rattle.values.specs.declared.size_numbers.SizeNumbers.{SizeNumbers}
 use Rattle.trace.specs.Encoding.{Asked, request_bytes}
 use Rattle.trace.specs.Items.{Request}
-use Rattle.trace.specs.Reading.{Left, after_item, after_sizes, item_read, sizes_read}
+use Rattle.trace.specs.Lefts.{Left}
+use Rattle.trace.specs.Reading.{after_item, after_sizes, item_read, sizes_read}
 use Rattle.trace.specs.Whole.{AllRead, Reads, first, meant, stop}
 use Rattle.trace.proofs.Encodings.{Bytes}
 use Rattle.trace.proofs.WholeTraces.{item_passed, reads_push, sizes_passed}
@@ -22,7 +23,7 @@ pub record SoFar (bs : List ℕ) (m : Left) (n : ℕ) : Type 0 where
 pub so_far_none : (bs : List ℕ) (z : SizeNumbers) → Bytes bs → sizes_read (first bs) ≡ Ok z → SoFar bs (after_sizes (first bs)) 0
 so_far_none bs z b e =
     let p = sizes_passed bs z b e in
-    record { sizes = z; requests = []; sized = e; reads = stop; many = refl; others = p.0; room = omega (arith, p.1) }
+    record { sizes = z; requests = []; sized = e; reads = stop; many = refl; others = p.others; room = omega (arith, ap length p.bytes) }
 
 -- an item has at least one word
 pub item_shortens : {bs : List ℕ} {m : Left} {n : ℕ} → SoFar bs m n → (q : Request) → item_read m ≡ Ok (Some q) →

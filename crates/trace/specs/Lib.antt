@@ -1,4 +1,8 @@
+pub mod Thens
+pub mod Lefts
+pub mod Kinds
 pub mod Words
+pub mod Texts
 pub mod Items
 pub mod Sizes
 pub mod Reading

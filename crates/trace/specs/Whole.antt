@@ -12,7 +12,8 @@ use Rattle.values.specs.Sizes.{sizes_from}
 use Rattle.trace.specs.Encoding.{Asked, LawfulRequest, trace_bytes}
 use Rattle.trace.specs.Hints.{values_of}
 use Rattle.trace.specs.Items.{Request}
-use Rattle.trace.specs.Reading.{Left, after_item, after_sizes, item_read, sizes_read}
+use Rattle.trace.specs.Lefts.{Left}
+use Rattle.trace.specs.Reading.{after_item, after_sizes, item_read, sizes_read}
 
 abbrev pub meant : Request → Asked
 meant q = record {

@@ -4,7 +4,6 @@
 pub mod fault;
 pub mod item;
 pub mod reader;
-mod sizes;
 #[cfg(test)]
 mod tests;
 pub mod whole;

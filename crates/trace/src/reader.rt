@@ -8,4 +8,7 @@ pub struct Reader<'t> {
     ghost within: { 4 * place + length rest.now < 2 ^ 64 },
 }
 
-pub mod reading;
+mod items;
+mod reading;
+mod sizes;
+mod words;

@@ -5,7 +5,8 @@ ghost use Rattle.trace.specs.Whole.{AllRead, Encodes, FirstFault};
 use crate::fault::Fault;
 use crate::reader::Reader;
 
-/// How many items a trace has, or its first fault.
+/// How many items a trace has, or its first fault. A reader that refuses stays where it is, so it is
+/// no iterator, which would never end.
 pub fn count_items(trace: &[u8]) -> Result<usize, Fault>
     ensures reading { MatchResult result (λ n. AllRead trace.now n) (λ f. FirstFault trace.now (refused f)) }
     ensures format { MatchResult result (λ n. Encodes trace.now n) (λ _. (n : ℕ) → Encodes trace.now n → ⊥) }

@@ -1,2 +1,3 @@
 pub mod HintSets
 pub mod Sizes
+pub mod Texts

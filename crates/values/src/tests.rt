@@ -24,10 +24,10 @@ fn with(name: SizeName, size: u32) -> SizeNumbers {
 }
 
 fn check_limit(rt: &impl Abort, name: SizeName, most: u32, over: u32) {
-    assert_eq!(rt; Sizes::new(with(name, 0)), Err(BadSize(name)));
-    assert!(rt; Sizes::new(with(name, 1)).is_ok());
-    assert!(rt; Sizes::new(with(name, most)).is_ok());
-    assert_eq!(rt; Sizes::new(with(name, over)), Err(BadSize(name)));
+    assert_eq!(rt; Sizes::try_from(with(name, 0)), Err(BadSize(name)));
+    assert!(rt; Sizes::try_from(with(name, 1)).is_ok());
+    assert!(rt; Sizes::try_from(with(name, most)).is_ok());
+    assert_eq!(rt; Sizes::try_from(with(name, over)), Err(BadSize(name)));
 }
 
 #[test]
@@ -48,14 +48,7 @@ fn the_first_bad_size_is_named(rt: HostRuntime) {
         page_rows: 257,
         window: 0,
     };
-    assert_eq!(rt; Sizes::new(n), Err(BadSize(SizeName::HintRows)));
-}
-
-fn numbers_of(made: Result<HintSet, BadHintSet>) -> Option<HintNumbers> {
-    match made {
-        Ok(hints) => Some(hints.numbers()),
-        Err(BadHintSet) => None,
-    }
+    assert_eq!(rt; Sizes::try_from(n), Err(BadSize(SizeName::HintRows)));
 }
 
 #[test]
@@ -69,7 +62,10 @@ fn a_hint_set_has_up_to_five_values(rt: HostRuntime) {
         fourth: 4,
         fifth: 65535,
     };
-    assert_eq!(rt; numbers_of(HintSet::new(15, &[1, 2, 3, 4, 65535])), Some(n));
+    assert_eq!(rt;
+        HintSet::new(15, &[1, 2, 3, 4, 65535]).map(HintSet::numbers),
+        Ok(n)
+    );
     assert_eq!(rt; HintSet::new(15, &[1, 2, 3, 4, 5, 6]), Err(BadHintSet));
     assert_eq!(rt; HintSet::new(16, &[1]), Err(BadHintSet));
 }
@@ -85,17 +81,17 @@ fn plain_numbers_are_checked(rt: HostRuntime) {
         fourth: 0,
         fifth: 0,
     };
-    assert_eq!(rt; HintSet::from_numbers(n), HintSet::new(0, &[7]));
+    assert_eq!(rt; HintSet::try_from(n), HintSet::new(0, &[7]));
     assert_eq!(rt;
-        HintSet::from_numbers(HintNumbers { second: 1, ..n }),
+        HintSet::try_from(HintNumbers { second: 1, ..n }),
         Err(BadHintSet)
     );
     assert_eq!(rt;
-        HintSet::from_numbers(HintNumbers { client: 16, ..n }),
+        HintSet::try_from(HintNumbers { client: 16, ..n }),
         Err(BadHintSet)
     );
     assert_eq!(rt;
-        HintSet::from_numbers(HintNumbers { count: 6, ..n }),
+        HintSet::try_from(HintNumbers { count: 6, ..n }),
         Err(BadHintSet)
     );
 }

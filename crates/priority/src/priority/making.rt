@@ -1,5 +1,6 @@
 ghost use Rattle.std.specs.Prelude.{◌≡◌};
-ghost use Rattle.priority.specs.Priorities.{lowest, numbered, parts_of, priority_from};
+ghost use Rattle.std.specs.Result.{result_map_both};
+ghost use Rattle.priority.specs.Priorities.{lowest, parts_of, priority_from, refused};
 
 use crate::priority::{BadPriority, Priority};
 use crate::priority_parts::PriorityParts;
@@ -8,27 +9,29 @@ const MOST_NUMERATOR: u64 = 4_194_304;
 
 const MOST_DENOMINATOR: u64 = 274_877_906_944;
 
-impl Priority {
-    /// The fraction with these parts, if they are within the limits.
-    pub fn new(p: PriorityParts) -> Result<Priority, BadPriority>
-        ensures { numbered result ≡ priority_from p }
-    {
-        if p.numerator > MOST_NUMERATOR || p.denominator < 1 || p.denominator > MOST_DENOMINATOR {
+/// The fraction with these parts, if they are within the limits.
+impl TryFrom<PriorityParts> for Priority {
+    type Error = BadPriority;
+
+    ghost try_from_gives = { λ parts made. result_map_both parts_of refused made ≡ priority_from parts };
+
+    fn try_from(parts: PriorityParts) -> Result<Priority, BadPriority> {
+        if parts.numerator > MOST_NUMERATOR
+            || !(1..=MOST_DENOMINATOR).contains(&parts.denominator)
+        {
             return Err(BadPriority);
         }
-        Ok(Priority {
-            numerator: p.numerator,
-            denominator: p.denominator,
-        })
+        Ok(Priority { parts })
     }
+}
 
+impl Priority {
     /// The lowest priority, 0 over 1: that of a hint set of which nothing is known.
     pub fn lowest() -> Priority
         ensures { parts_of result ≡ lowest }
     {
         Priority {
-            numerator: 0,
-            denominator: 1,
+            parts: PriorityParts::LOWEST,
         }
     }
 
@@ -36,9 +39,6 @@ impl Priority {
     pub fn parts(self) -> PriorityParts
         ensures { result ≡ parts_of self }
     {
-        PriorityParts {
-            numerator: self.numerator,
-            denominator: self.denominator,
-        }
+        self.parts
     }
 }

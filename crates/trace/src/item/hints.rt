@@ -1,39 +1,29 @@
-ghost use Rattle.std.specs.Prelude.{◌≡◌, ◌+◌, ◌*◌, ◌≤◌, true, map, length, is_ok};
+ghost use Rattle.std.specs.Prelude.{◌≡◌, ◌<◌, true, is_ok, map, slice_index};
 ghost use Rattle.std.specs.List.{range_with_len};
 ghost use Rattle.std.specs.Result.{result_map_both};
 ghost use Rattle.values.specs.HintSets.{hints_from, meaning, refused};
+ghost use Rattle.values.specs.declared.hint_set.TheConstants.{MOST_VALUES};
 ghost use Rattle.trace.specs.Hints.{value_at, values_of};
 ghost use Rattle.trace.specs.Items.{Hinted, request};
 
 use crate::item::Item;
-use values::hint_set::{BadHintSet, HintSet};
-
-const MOST_HINTS: usize = 5;
+use std::array;
+use values::hint_set::{BadHintSet, HintSet, MOST_VALUES};
 
 /// The value of the hint word at a place, from 0.
 fn hint_value(words: &[u8], place: usize) -> u16
-    requires { 4 * place + 4 ≤ length words.now }
+    requires { place < MOST_VALUES }
     ensures { result ≡ value_at words.now place }
 {
-    u16::from_be_bytes([words[4 * place + 2], words[4 * place + 3]])
+    let byte = |at: usize| words.get(at).copied().unwrap_or(0);
+    u16::from_be_bytes([byte(4 * place + 2), byte(4 * place + 3)])
 }
 
-fn fill_values(words: &[u8], values: &mut [u16])
-    requires { 4 * length values.old ≤ length words.now }
-    ensures { values.new ≡ map (value_at words.now) (range_with_len 0 (length values.old)) }
+/// The values of the first five words, with 0 for each byte past the end.
+fn hint_values(words: &[u8]) -> [u16; MOST_VALUES]
+    ensures { result ≡ map (value_at words.now) (range_with_len 0 MOST_VALUES) }
 {
-    for i in 0..values.len() {
-        values[i] = hint_value(words, i);
-    }
-}
-
-/// The hint set whose values are those of the first words, one for each place of `values`.
-fn hint_set_of(client: u8, words: &[u8], values: &mut [u16]) -> Result<HintSet, BadHintSet>
-    requires { 4 * length values.old ≤ length words.now }
-    ensures { result_map_both meaning refused result ≡ hints_from client (map (value_at words.now) (range_with_len 0 (length values.old))) }
-{
-    fill_values(words, values);
-    HintSet::new(client, values)
+    array::from_fn(|place| hint_value(words, place))
 }
 
 impl<'t> Item<'t> {
@@ -43,10 +33,8 @@ impl<'t> Item<'t> {
         ensures succeeds { Hinted (request self.now) → is_ok result ≡ true }
     {
         let count = self.hints.len() / 4;
-        if count > MOST_HINTS {
-            return Err(BadHintSet);
-        }
-        let mut values = [0u16; 5];
-        hint_set_of(self.client, self.hints, &mut values[0..count])
+        let values = hint_values(self.hints);
+        let values = values.get(..count).ok_or(BadHintSet)?;
+        HintSet::new(self.client, values)
     }
 }

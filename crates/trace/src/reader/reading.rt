@@ -2,14 +2,14 @@ ghost use Rattle.std.specs.Prelude.{◌≡◌, IfSome, IfOk};
 ghost use Rattle.std.specs.Option.{option_map};
 ghost use Rattle.std.specs.Result.{result_map_both};
 ghost use Rattle.values.specs.Sizes.{numbers_of};
-ghost use Rattle.trace.specs.Words.{refused};
 ghost use Rattle.trace.specs.Items.{Hinted, request};
-ghost use Rattle.trace.specs.Reading.{after_item, after_sizes, item_read, left, sizes_read};
+ghost use Rattle.trace.specs.Lefts.{left};
+ghost use Rattle.trace.specs.Reading.{after_item, after_sizes, item_read, sizes_read};
+ghost use Rattle.trace.specs.Words.{refused};
 
 use crate::fault::Fault;
-use crate::item::{Item, read_item};
+use crate::item::Item;
 use crate::reader::Reader;
-use crate::sizes::{limit, read_header};
 use values::sizes::Sizes;
 
 impl<'t> Reader<'t> {
@@ -28,12 +28,9 @@ impl<'t> Reader<'t> {
         ensures value { result_map_both numbers_of refused result ≡ sizes_read (left self.old) }
         ensures after { left self.new ≡ after_sizes (left self.old) }
     {
-        let header = read_header(self.rest, self.place)?;
-        let sizes = limit(header.sizes, self.place)?;
-        *self = Reader {
-            rest: header.rest,
-            place: header.place,
-        };
+        let (numbers, after) = self.size_words()?;
+        let sizes = self.limit(numbers)?;
+        *self = after;
         Ok(sizes)
     }
 
@@ -46,11 +43,8 @@ impl<'t> Reader<'t> {
         if self.rest.is_empty() {
             return Ok(None);
         }
-        let step = read_item(self.rest, self.place)?;
-        *self = Reader {
-            rest: step.rest,
-            place: step.place,
-        };
-        Ok(Some(step.item))
+        let (item, after) = self.item()?;
+        *self = after;
+        Ok(Some(item))
     }
 }

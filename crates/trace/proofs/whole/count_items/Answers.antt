@@ -1,26 +1,19 @@
-use Rattle.std.proofs.Common.{◌≡◌, ℕ, ◌+◌, ◌^◌, ◌<◌, List, length, get_or, Some, None, Ok, sym, ap, ◌∙◌, subst, inl, inr, arith, w8, Fits}
+use Rattle.std.proofs.Common.{◌≡◌, ℕ, ◌+◌, ◌^◌, ◌<◌, List, length, get_or, Some, None, Ok, sym, ap, ◌∙◌, subst, arith, rules, w8, Fits}
 use Rattle.std.specs.Option.{option_map}
 use Rattle.std.proofs.ByRecursion.{All-from_get_or}
-use Rattle.std.proofs.lemmas.Result.{err_from_is_err_and}
 use Rattle.trace.specs.Items.{request}
-use Rattle.trace.specs.Reading.{after_sizes, item_read, left, sizes_read}
-use Rattle.trace.specs.Whole.{FirstFault}
-use Rattle.trace.specs.Words.{refused}
+use Rattle.trace.specs.Lefts.{left}
+use Rattle.trace.specs.Reading.{after_sizes, item_read, sizes_read}
 use Rattle.trace.proofs.Encodings.{Bytes}
 use Rattle.trace.proofs.SoFar.{SoFar, item_shortens, so_far_all, so_far_more, so_far_none}
-use Rattle.trace.proofs.WholeTraces.{all_read_encodes, fault_no_encoding}
+use Rattle.trace.proofs.WholeTraces.{in_format}
 use Rattle.trace.proofs.whole.count_items.Goals as goal
 
 bytes : (bs : List ℕ) → ((i : ℕ) → Fits w8 (get_or bs i 0)) → Bytes bs
 bytes bs typed = All-from_get_or (λ b. b < 2 ^ 8) bs 0 (λ i _. omega (arith, typed i))
 
-pub returns-in_err-_sizes : goal.returns-in_err-_sizes
-returns-in_err-_sizes c =
-    let bs = c.args.trace.now in
-    let p = err_from_is_err_and c.from_residual.result c.from_residual.ensures.1 in
-    let fault = refused c.in_err-_sizes.field-0.0 in
-    let first_fault : FirstFault bs fault = inl (sym (c.in_err-_sizes.ensures.value ∙ ap sizes_read c.new-reader.ensures)) in
-    rw (p.1, p.2) (record { reading = first_fault; format = fault_no_encoding bs fault first_fault })
+pub returns-in_err-_sizes-clause-format : goal.returns-in_err-_sizes-clause-format
+returns-in_err-_sizes-clause-format c = in_format c.args.trace.now c.from_residual.result (bytes c.args.trace.now c.type_inv.trace) (search rules)
 
 pub loop-item-init : goal.loop-item-init
 loop-item-init c =
@@ -29,15 +22,9 @@ loop-item-init c =
     subst (λ m. SoFar bs m 0) (sym (e.after ∙ ap after_sizes c.new-reader.ensures))
     (so_far_none bs _ (bytes bs c.type_inv.trace) (sym (e.value ∙ ap sizes_read c.new-reader.ensures)))
 
-pub returns-in_err-_item : goal.returns-in_err-_item
-returns-in_err-_item c =
-    let bs = c.args.trace.now in
-    let s = c.loop-item.invariant in
-    let p = err_from_is_err_and c.from_residual-in_err-_item.result c.from_residual-in_err-_item.ensures.1 in
-    let fault = refused c.in_err-_item.field-0.0 in
-    let first_fault : FirstFault bs fault =
-    inr (record { requests = s.requests; last = left c.loop-item.reader; reads = s.reads; faults = sym c.in_err-_item.ensures.value }) in
-    rw (p.1, p.2) (record { reading = first_fault; format = fault_no_encoding bs fault first_fault })
+pub returns-in_err-_item-clause-format : goal.returns-in_err-_item-clause-format
+returns-in_err-_item-clause-format c =
+    in_format c.args.trace.now c.from_residual-in_err-_item.result (bytes c.args.trace.now c.type_inv.trace) (search rules)
 
 item_is : (c : goal.In-Some) → item_read (left c.loop-item.reader) ≡ Ok (Some (request c.in-Some._item))
 item_is c = sym c.in_ok-_item.ensures.value ∙ ap (λ o. Ok (option_map request o)) c.in-Some.is
@@ -56,4 +43,5 @@ returns c =
     let ended : item_read (left c.loop-item.reader) ≡ Ok None =
     sym c.in_ok-_item.ensures.value ∙ ap (λ o. Ok (option_map request o)) c.in_default.is in
     let all = so_far_all c.loop-item.invariant ended in
-    record { reading = all; format = all_read_encodes _ _ (bytes c.args.trace.now c.type_inv.trace) all }
+    let bs = c.args.trace.now in
+    record { reading = all; format = in_format bs (Ok c.loop-item.count) (bytes bs c.type_inv.trace) all }

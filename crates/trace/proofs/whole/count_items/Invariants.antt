@@ -1,5 +1,5 @@
 use Rattle.std.proofs.Common.{length}
-use Rattle.trace.specs.Reading.{left}
+use Rattle.trace.specs.Lefts.{left}
 use Rattle.trace.proofs.SoFar.{SoFar}
 use Rattle.trace.proofs.whole.count_items.Given as goal
 
