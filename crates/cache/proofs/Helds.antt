@@ -1,10 +1,10 @@
 -- The pages of the used places, and what changes of rows and memory make of them.
-use Rattle.std.proofs.Common.{◌≡◌, ℕ, ◌+◌, ◌/◌, ◌<◌, ◌≤◌, Bool, true, false, cond, ◌&&◌, eqb, List, [], ◌∷◌, ◌++◌, length, get_or, take, map, set, Some, sym, refl, ap, ◌∙◌, ap₂, zero-add, arith, length-take-le, eqb-true}
+use Rattle.std.proofs.Common.{◌≡◌, ℕ, zero, suc, ◌+◌, ◌/◌, ◌<◌, ◌≤◌, min, Bool, true, false, cond, ◌&&◌, eqb, List, [], ◌∷◌, ◌++◌, length, get_or, take, map, set, Some, sym, refl, ap, ◌∙◌, ap₂, zero-add, arith, length-take-le, eqb-true}
 use borrow.Author.Tests.{eqb-false}
 use Rattle.std.specs.List.{enumerate_from, slice_get}
 use Rattle.std.proofs.lemmas.Bool.{eq-eqb, lt-ltb}
 use Rattle.std.proofs.lemmas.Grind.{get_or-set_at}
-use Rattle.std.proofs.lemmas.List.{ext_get_or, get_or-map, get_or-set_other, get_or-take, get_or_append_left, get_or_push, length-map, length-set, length_push}
+use Rattle.std.proofs.lemmas.List.{ext_get_or, get_or_default, get_or-map, get_or-set_other, get_or-take, get_or_append_left, get_or_push, length-map, length-set, length_push}
 use Rattle.std.proofs.lemmas.List.FromFn.{get_or-enumerate_from, length-enumerate_from}
 use Rattle.std.proofs.lemmas.Option.{slice_get-get_or}
 use Rattle.store.specs.Makes.{fits, page_in, page_of, page_out, put_page}
@@ -16,6 +16,13 @@ use Rattle.rules.specs.Requests.{cached_or}
 use Rattle.cache.specs.Pages.{cached_at, pages_of, room_of}
 use Rattle.cache.specs.Changes.{added, cached_as, has_room, put_at, shown, takes, touched}
 use Rattle.cache.proofs.Blanks.{blank, blank_page}
+
+set_take : {A : Type 0} (u i : ℕ) (y : A) (xs : List A) → take u (set xs i y) ≡ set (take u xs) i y
+set_take zero i y [] = refl
+set_take zero i y (x ∷ xs) = refl
+set_take (suc u) i y [] = refl
+set_take (suc u) zero y (x ∷ xs) = refl
+set_take (suc u) (suc i) y (x ∷ xs) = ap (λ ys. x ∷ ys) (set_take u i y xs)
 
 entries_from : (bs : List ℕ) (n : ℕ) (es : List Entry) → entries (map (cached_at bs) (enumerate_from n es)) ≡ es
 entries_from bs n [] = refl
@@ -35,7 +42,7 @@ module _ (u : ℕ) (rows : List Entry) (bs : List ℕ) (w : u ≤ length rows) w
   unfolding pages_of
   length_pages = simp (length-map, length-enumerate_from) (length-take-le u rows w)
 
-  at_place : (i : ℕ) → i < u → get_or (pages_of u rows bs) i blank_page ≡ cached_as (get_or rows i blank) (page_of bs i)
+  pub at_place : (i : ℕ) → i < u → get_or (pages_of u rows bs) i blank_page ≡ cached_as (get_or rows i blank) (page_of bs i)
   unfolding pages_of
   at_place i l =
       let k = length-take-le u rows w in
@@ -86,13 +93,14 @@ module _ (u : ℕ) (rows : List Entry) (bs : List ℕ) (e : Entry) (v : List ℕ
           ∙ at_place u rows bs (omega (arith, l, s)) j (omega (arith, t, m, s)) ∙ sym (other_row j t q)
 
 module _ (u : ℕ) (rows : List Entry) (bs : List ℕ) (w : u ≤ room_of rows bs) where
-  takes_used : (i : ℕ) (v : List ℕ) → i < u → length v ≡ 256 → takes (pages_of u rows bs) i (length v) ≡ true
+  -- whether a used place takes bytes that are a page
+  pub takes_used : (i : ℕ) (v : List ℕ) → i < u → length v ≡ 256 → takes (pages_of u rows bs) i (length v) ≡ true
   takes_used i v l k = ap₂ (λ x y. x && y) (lt-ltb i (length (pages_of u rows bs)) (omega (arith, length_pages u rows bs, w, l))) (eq-eqb (length v) 256 k)
 
   fits_place : (i : ℕ) (v : List ℕ) → i < room_of rows bs → length v ≡ 256 → fits bs i v ≡ true
   fits_place i v l k = ap₂ (λ x y. x && y) (lt-ltb i (length bs / 256) (omega (arith, l))) (eq-eqb (length v) 256 k)
 
-  got : (i : ℕ) → i < u → slice_get (pages_of u rows bs) i ≡ Some (cached_as (get_or rows i blank) (page_of bs i))
+  pub got : (i : ℕ) → i < u → slice_get (pages_of u rows bs) i ≡ Some (cached_as (get_or rows i blank) (page_of bs i))
   got i l =
       let n = length_pages u rows bs (omega (arith, w)) in
       slice_get-get_or (pages_of u rows bs) i blank_page (omega (arith, n, l)) ∙ ap Some (at_place u rows bs (omega (arith, w)) i l)
@@ -137,3 +145,11 @@ module _ (u : ℕ) (rows : List Entry) (bs : List ℕ) (w : u ≤ room_of rows b
       let n = length_pages u rows bs (omega (arith, w)) in
       pages_set u rows bs e (page_of bs i) i (omega (arith, w, l)) bs (same_page i) (omega (arith, w)) l
       ∙ sym (ap₂ (λ b o. cond b (cached_or (λ x. set cs i (cached_as e x.bytes)) cs o) cs) (lt-ltb i (length cs) (omega (arith, n, l))) (got i l))
+
+-- the same of any number of places, of which those with room are used
+module _ (u : ℕ) (rows : List Entry) (bs : List ℕ) where
+  pub takes_held : (i : ℕ) (v : List ℕ) → i < min u (room_of rows bs) → length v ≡ 256 → takes (pages_of (min u (room_of rows bs)) rows bs) i (length v) ≡ true
+  takes_held = takes_used (min u (room_of rows bs)) rows bs (omega arith)
+
+  pub nth_pages : (i : ℕ) (d : Entry) → i < min u (room_of rows bs) → slice_get (pages_of (min u (room_of rows bs)) rows bs) i ≡ Some (cached_as (get_or rows i d) (page_of bs i))
+  nth_pages i d l = got (min u (room_of rows bs)) rows bs (omega arith) i l ∙ ap (λ e. Some (cached_as e (page_of bs i))) (get_or_default rows i blank d (omega (arith, l)))

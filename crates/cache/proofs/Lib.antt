@@ -3,3 +3,5 @@ pub mod Contests
 pub mod Helds
 pub mod Ranks
 pub mod Settles
+pub mod Seeks
+pub mod Views

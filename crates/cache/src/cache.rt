@@ -8,7 +8,7 @@ ghost use Rattle.cache.specs.Changes.{shown, sought, takes};
 use rules::entry::Entry;
 use store::page::{PAGE_BYTES, page_out};
 
-mod changing;
+pub mod changing;
 
 /// The cached pages, in lent rows and lent memory, since no part of a server has a heap: the
 /// page of row i is the i-th 256 bytes. The first `used` places are in use, of those that have

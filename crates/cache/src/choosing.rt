@@ -9,7 +9,7 @@ ghost use Rattle.cache.specs.View.{cached};
 use crate::cache::Cache;
 use crate::priorities::priority_of;
 use counting::row::Row;
-use order::least::least_place;
+use order::least::least_by;
 use rules::choice::Choice;
 use values::hint_numbers::HintNumbers;
 
@@ -19,7 +19,7 @@ impl<'a> Cache<'a> {
         ensures value { result ≡ least_in (gives_way closed.now) (entries_of (cached self.now)) }
         ensures within { IfSome result (λ place. place < length (cached self.now)) }
     {
-        least_place(self.entries(), |entry| {
+        least_by(self.entries(), |entry| {
             (priority_of(closed, entry.hints), entry.number)
         })
     }

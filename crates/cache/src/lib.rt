@@ -2,5 +2,5 @@
 #![tactic(auto)]
 
 pub mod cache;
-mod choosing;
+pub mod choosing;
 pub mod priorities;

@@ -1,8 +1,11 @@
 ghost use Rattle.std.specs.Prelude.{◌≡◌};
-ghost use Rattle.counting.specs.Rows.{credited, entering, has_key, raised, replaced};
+ghost use Rattle.counting.specs.Rows.{credited, entering, has_key, raised, replaced, sooner};
+ghost use Rattle.std.proofs.Common.{rules};
 
 use crate::count_all::Counting;
 use keys::Key;
+use order::Order;
+use order::least::Ranked;
 
 /// A row of a counting table. Repeats and distances are those credited to a hint set; in a
 /// row of another kind of key they stay 0.
@@ -14,6 +17,32 @@ pub struct Row<K> {
     pub entered: u32,
     pub repeats: u32,
     pub distances: u32,
+}
+
+/// The order in which rows give way: the least count, then the earliest entered. Written out,
+/// since it costs less than a comparison of pairs.
+impl<K> Order for Row<K> {
+    ghost before = { sooner };
+
+    ghost ranks = { Prim.search rules };
+
+    fn precedes(&self, other: &Row<K>) -> bool {
+        self.count < other.count || (self.count == other.count && self.entered < other.entered)
+    }
+}
+
+/// Each row is its own rank.
+impl<'a, K: Copy> Ranked<Row<K>> for &'a [Row<K>] {
+    ghost ranked = { λ rows. rows.now };
+
+    fn many(&self) -> usize {
+        self.len()
+    }
+
+    fn rank(&self, place: usize) -> Row<K> {
+        let rows = *self;
+        rows[place]
+    }
 }
 
 impl<K> Row<K> {

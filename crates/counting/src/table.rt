@@ -6,8 +6,8 @@ use crate::row::Row;
 use keys::Key;
 use std::fmt;
 
-mod counting;
-mod crediting;
+pub mod counting;
+pub mod crediting;
 
 /// A counting table over handed rows: memory is lent, so the rows in use are its first `used`
 /// ones. At most 2,048 countings were accepted since it was emptied. It serves whatever the

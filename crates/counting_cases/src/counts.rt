@@ -2,6 +2,8 @@ use counting::count_all::{Counting, count_all};
 use counting::row::Row;
 use counting::table::{NotCounted, Table};
 use keys::hints::same_hints;
+use order::Order;
+use order::least::least_place;
 use std::test::Fail;
 use values::hint_numbers::HintNumbers;
 use values::hint_set::HintSet;
@@ -70,6 +72,20 @@ fn the_first_gives_way_where_all_is_equal(rt: HostRuntime) {
     let table = count_all(&mut rows, &[at(A, 1), at(B, 1), at(C, 2)]);
     assert_eq!(rt; table.lookup(A), None);
     assert_eq!(rt; table.lookup(B), Some((1, 0)));
+}
+
+#[test]
+fn rows_are_a_run_in_the_order_of_giving_way(rt: HostRuntime) {
+    let row = |count, entered| Row {
+        count,
+        entered,
+        ..unused(A)
+    };
+    let rows = [row(2, 1), row(1, 5), row(1, 3), row(1, 3)];
+    let run = rows.as_slice();
+    assert_eq!(rt; least_place(&run), Some(2));
+    assert!(rt; rows[2].precedes(&rows[1]));
+    assert!(rt; !rows[2].precedes(&rows[3]));
 }
 
 #[test]

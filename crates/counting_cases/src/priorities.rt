@@ -1,4 +1,5 @@
 use counting::row::Row;
+use order::Order;
 use priority::priority::{BadPriority, Priority};
 use priority::priority_parts::PriorityParts;
 use std::test::Fail;
@@ -34,6 +35,8 @@ fn equal_fractions_are_not_greater(rt: HostRuntime) -> Result<(), Fail> {
     let again = Priority::try_from(over(2, 4))?;
     assert!(rt; !half.greater(again));
     assert!(rt; !again.greater(half));
+    assert!(rt; !again.precedes(&half));
+    assert!(rt; Priority::lowest().precedes(&half));
     assert!(rt; half.greater(Priority::lowest()));
     assert!(rt;
         Priority::try_from(over(4_194_304, 1))?.greater(Priority::try_from(over(4_194_303, 1))?)

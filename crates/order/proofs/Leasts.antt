@@ -17,11 +17,7 @@ use Rattle.std.proofs.lemmas.List.{get_or_default, length-map}
 use Rattle.std.proofs.lemmas.List.FromFn.{get_or-enumerate_from, length-enumerate_from}
 use Rattle.std.proofs.lemmas.List.Folds.{Any-from_list_any, list_any_at}
 use Rattle.std.proofs.lemmas.List.MinMax.{IsFirstBest-keeps, IsFirstBest-none, IsFirstBest-takes, IsFirstBest-unique, ranks_by}
-use Rattle.order.specs.Least.{FirstLeast, least, least_in, less_by}
-
--- the lesser of two ranks with their places: the later one only where it comes before the earlier
-abbrev lesser : {R : Type 0} → (R → R → Bool) → ℕ × R → ℕ × R → ℕ × R
-lesser before earlier later = cond (before later.1 earlier.1) later earlier
+use Rattle.order.specs.Least.{FirstLeast, least, least_in, less_by, lesser}
 
 module _ {A : Type 0} (before : A → A → Bool) where
   pub least_lt : (xs : List A) → 0 < length xs → least before xs < length xs
@@ -32,6 +28,10 @@ module _ {A : Type 0} (before : A → A → Bool) where
       go : (b : Bool) → least before (y ∷ ys) < length (y ∷ ys) → cond b (suc (least before (y ∷ ys))) 0 < length (x ∷ y ∷ ys)
       go true h = omega arith
       go false h = omega arith
+
+  -- the least of the first i elements, with its place
+  abbrev pub Least-so-far : List A → ℕ → ℕ × A → Type 0
+  Least-so-far xs i p = IsFirstBest before xs i p.0 × HoldsAt (λ x. p.1 ≡ x) xs p.0
 
   module _ (o : IsStrictWeakOrder before) where
     -- where nothing of the rest comes before x, x is the least
@@ -71,6 +71,15 @@ module _ {A : Type 0} (before : A → A → Bool) where
         go true e f = later x (y ∷ ys) (least before (y ∷ ys)) e f
         go false e f = here x (y ∷ ys) e
 
+    -- one more element, x at i, beside the least so far, y at b
+    pub lesser_more : (xs : List A) (i b : ℕ) (x y : A) → i < length xs → IsFirstBest before xs i b → HoldsAt (λ z. x ≡ z) xs i → HoldsAt (λ z. y ≡ z) xs b →
+        Least-so-far xs (i + 1) (lesser before (b, y) (i, x))
+    lesser_more xs i b x y l f ex ey = go (before x y) refl
+      where
+        go : (t : Bool) → before x y ≡ t → Least-so-far xs (i + 1) (cond t (i, x) (b, y))
+        go true e = (IsFirstBest-takes o xs i b x y f l (ex x) (ey y) e, ex)
+        go false e = (IsFirstBest-keeps o xs i b x y f l (ex x) (ey y) e, ey)
+
     -- what the search for the least finds is the least
     pub least_is : (xs : List A) (b : ℕ) → IsFirstBest before xs (length xs) b → b ≡ least before xs
     least_is [] b f = absurd (omega (arith, f.0))
@@ -83,16 +92,16 @@ computed g law key f x r p h = let q = post_steps g f (x, tt) r law p in (h.at (
 -- ---- ranks that a key gives
 module _ {A R : Type 0} {cmp : R → R → Ordering} (o : IsTotalOrder cmp) (key : A → R) where
   -- the least rank of the first i elements, with its place
-  abbrev LeastSoFar : List A → ℕ → ℕ × R → Type 0
-  LeastSoFar xs i p = IsFirstBest (less_by cmp key) xs i p.0 × HoldsAt (λ x. p.1 ≡ key x) xs p.0
+  abbrev LeastRankSoFar : List A → ℕ → ℕ × R → Type 0
+  LeastRankSoFar xs i p = IsFirstBest (less_by cmp key) xs i p.0 × HoldsAt (λ x. p.1 ≡ key x) xs p.0
 
   -- the first element alone
-  least_at_first : (xs : List A) (r : R) → HoldsAt (λ x. r ≡ key x) xs 0 → LeastSoFar xs 1 (0, r)
+  least_at_first : (xs : List A) (r : R) → HoldsAt (λ x. r ≡ key x) xs 0 → LeastRankSoFar xs 1 (0, r)
   least_at_first xs r e = (IsFirstBest-none (ranks_by o key) xs, e)
 
   -- one more element, x at i, of rank r
-  lesser_more : (xs : List A) (i : ℕ) (p : ℕ × R) (x : A) (r : R) → i < length xs → LeastSoFar xs i p → x ≡ get_or xs i x → r ≡ key x → LeastSoFar xs (i + 1) (lesser (λ a b. is_lt (cmp a b)) p (i, r))
-  lesser_more xs i p x r l f e k = go (is_lt (cmp r p.1)) refl
+  lesser_rank_more : (xs : List A) (i : ℕ) (p : ℕ × R) (x : A) (r : R) → i < length xs → LeastRankSoFar xs i p → x ≡ get_or xs i x → r ≡ key x → LeastRankSoFar xs (i + 1) (lesser (λ a b. is_lt (cmp a b)) p (i, r))
+  lesser_rank_more xs i p x r l f e k = go (is_lt (cmp r p.1)) refl
     where
       y : A
       y = get_or xs p.0 x
@@ -106,15 +115,15 @@ module _ {A R : Type 0} {cmp : R → R → Ordering} (o : IsTotalOrder cmp) (key
       ranks : is_lt (cmp r p.1) ≡ less_by cmp key x y
       ranks = ap₂ (λ a b. is_lt (cmp a b)) k (f.1 x)
 
-      go : (t : Bool) → is_lt (cmp r p.1) ≡ t → LeastSoFar xs (i + 1) (cond t (i, r) p)
+      go : (t : Bool) → is_lt (cmp r p.1) ≡ t → LeastRankSoFar xs (i + 1) (cond t (i, r) p)
       go true t = (IsFirstBest-takes (ranks_by o key) xs i p.0 x y f.0 l e there (sym ranks ∙ t), λ d. k ∙ ap key (e ∙ get_or_default xs i x d l))
       go false t = (IsFirstBest-keeps (ranks_by o key) xs i p.0 x y f.0 l e there (sym ranks ∙ t), f.1)
 
   -- at the end the least so far is the least
-  least_so_far : (xs : List A) (i : ℕ) (p : ℕ × R) → i ≡ length xs → LeastSoFar xs i p → p.0 ≡ least (less_by cmp key) xs
+  least_so_far : (xs : List A) (i : ℕ) (p : ℕ × R) → i ≡ length xs → LeastRankSoFar xs i p → p.0 ≡ least (less_by cmp key) xs
   least_so_far xs i p e f = least_is (less_by cmp key) (ranks_by o key) xs p.0 (rw e at f.0)
 
-  least_in_so_far : (xs : List A) (i : ℕ) (p : ℕ × R) → i ≡ length xs → LeastSoFar xs i p → Some p.0 ≡ least_in (less_by cmp key) xs
+  least_in_so_far : (xs : List A) (i : ℕ) (p : ℕ × R) → i ≡ length xs → LeastRankSoFar xs i p → Some p.0 ≡ least_in (less_by cmp key) xs
   least_in_so_far [] i p e f = absurd (omega (arith, f.0.0))
   least_in_so_far (x ∷ xs) i p e f = ap Some (least_so_far (x ∷ xs) i p e f)
 
@@ -135,21 +144,21 @@ module _ {A R : Type 0} {cmp : R → R → Ordering} (o : IsTotalOrder cmp) (key
 
     -- one turn takes the least of the first n elements to that of one more
     turn : (all : List A) (n : ℕ) (p : (F × R) × (ℕ × Bor A)) (z : ℕ × Bor A) (q : (F × R) × (ℕ × Bor A)) → n < length all → p.0.0 ≡ f
-        → LeastSoFar all n (p.1.0, p.0.1) → z.0 ≡ n → z.1.now ≡ get_or all n z.1.now → Turn p z q → (q.0.0 ≡ f) × LeastSoFar all (n + 1) (q.1.0, q.0.1)
+        → LeastRankSoFar all n (p.1.0, p.0.1) → z.0 ≡ n → z.1.now ≡ get_or all n z.1.now → Turn p z q → (q.0.0 ≡ f) × LeastRankSoFar all (n + 1) (q.1.0, q.0.1)
     turn all n p z q l e so place there t =
         let a = acts z t.0 q.0.0 (subst (λ (y : F). CalledAt g y z t.0 q.0.0) e t.2) in
-        let more = lesser_more all n (p.1.0, p.0.1) z.1.now t.0 l so there a.1 in
-        let placed = subst (λ (m : ℕ). LeastSoFar all (n + 1) (lesser (λ x y. is_lt (cmp x y)) (p.1.0, p.0.1) (m, t.0))) (sym place) more in
-        let best = kept (LeastSoFar all (n + 1)) t.1 (cmp t.0 p.0.1) (sym t.3 ∙ o.antisymm p.0.1 t.0) p.1 z p.0.1 t.0 placed in
-        let ranked = subst (λ (k : R). LeastSoFar all (n + 1) ((min_by_ordering t.1 p.1 z).0, k)) (sym t.4) best in
-        (a.0, subst (λ (y : ℕ × Bor A). LeastSoFar all (n + 1) (y.0, q.0.1)) (sym t.5) ranked)
+        let more = lesser_rank_more all n (p.1.0, p.0.1) z.1.now t.0 l so there a.1 in
+        let placed = subst (λ (m : ℕ). LeastRankSoFar all (n + 1) (lesser (λ x y. is_lt (cmp x y)) (p.1.0, p.0.1) (m, t.0))) (sym place) more in
+        let best = kept (LeastRankSoFar all (n + 1)) t.1 (cmp t.0 p.0.1) (sym t.3 ∙ o.antisymm p.0.1 t.0) p.1 z p.0.1 t.0 placed in
+        let ranked = subst (λ (k : R). LeastRankSoFar all (n + 1) ((min_by_ordering t.1 p.1 z).0, k)) (sym t.4) best in
+        (a.0, subst (λ (y : ℕ × Bor A). LeastRankSoFar all (n + 1) (y.0, q.0.1)) (sym t.5) ranked)
 
     -- and all turns to the least of all
     turns : (all : List A) (zs : List (ℕ × Bor A)) (n : ℕ) (p q : (F × R) × (ℕ × Bor A)) → n + length zs ≡ length all
         → ((k : ℕ) (d : ℕ × A) → k < length zs → get_or (map seen zs) k d ≡ (n + k, get_or all (n + k) d.1))
-        → p.0.0 ≡ f → LeastSoFar all n (p.1.0, p.0.1) → FoldsTo Turn p zs q → LeastSoFar all (length all) (q.1.0, q.0.1)
-    turns all [] n p q e at h so t = subst (λ (w : (F × R) × (ℕ × Bor A)). LeastSoFar all (length all) (w.1.0, w.0.1)) t
-        (subst (λ (m : ℕ). LeastSoFar all m (p.1.0, p.0.1)) (omega (arith, e)) so)
+        → p.0.0 ≡ f → LeastRankSoFar all n (p.1.0, p.0.1) → FoldsTo Turn p zs q → LeastRankSoFar all (length all) (q.1.0, q.0.1)
+    turns all [] n p q e at h so t = subst (λ (w : (F × R) × (ℕ × Bor A)). LeastRankSoFar all (length all) (w.1.0, w.0.1)) t
+        (subst (λ (m : ℕ). LeastRankSoFar all m (p.1.0, p.0.1)) (omega (arith, e)) so)
     turns all (z ∷ zs) n p q e at h so t =
         let here = at 0 (seen z) (omega arith) in
         let zero_more : n + 0 ≡ n = omega arith in
@@ -173,7 +182,7 @@ module _ {A R : Type 0} {cmp : R → R → Ordering} (o : IsTotalOrder cmp) (key
         let at = λ (i : ℕ) (e : ℕ × A) (l : i < length all). ap (λ w. get_or w i e) items ∙ get_or-enumerate_from 0 all i e l in
         let a = acts z k f' first in
         let here = at 0 (seen z) (omega (arith, long)) in
-        let so : LeastSoFar all 1 (z.0, k) = subst (λ (w : ℕ). LeastSoFar all 1 (w, k)) (sym (ap (λ w. w.0) here))
+        let so : LeastRankSoFar all 1 (z.0, k) = subst (λ (w : ℕ). LeastRankSoFar all 1 (w, k)) (sym (ap (λ w. w.0) here))
         (least_at_first all k (λ e. a.1 ∙ ap key (ap (λ w. w.1) here ∙ get_or_default all 0 z.1.now e (omega (arith, long))))) in
         least_in_so_far all (length all) (b.0, q.1) refl
         (turns all zs 1 ((f', k), z) (q, b) (omega (arith, long, count)) (λ i e l.

@@ -26,6 +26,15 @@ times a b k p = nat_cmp_is a b (nat_cmp (a * k) (b * k)) (go (nat_cmp (a * k) (b
     go Equal h = le_antisymm (le_of_mul-le-mul_right (omega arith) p) (le_of_mul-le-mul_right (omega arith) p)
     go Greater h = lt_of_mul-lt-mul_right k h
 
+-- a/b ≥ c/d ≥ e/f
+module _ (a b c d e f : ℕ) (h : c * b ≤ a * d) (k : e * d ≤ c * f) where
+  through : 1 ≤ d → e * b ≤ a * f
+  through p =
+      let u = mul-le-mul_right b k in
+      let v = mul-le-mul_right f h in
+      let q : (e * b) * d ≤ (a * f) * d = omega (arith, mul_right_comm e d b, mul_right_comm c f b, mul_right_comm a d f) in
+      le_of_mul-le-mul_right q p
+
 -- a/b and c/d, and each with e/f
 module _ (a b c d e f : ℕ) where
   through_strictly : 1 ≤ b → 1 ≤ d → a * d < c * b → c * f < e * d → a * f < e * b

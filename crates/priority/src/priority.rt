@@ -28,6 +28,6 @@ impl fmt::Display for BadPriority {
 
 impl std::error::Error for BadPriority {}
 
-mod comparing;
-mod from_row;
-mod making;
+pub mod comparing;
+pub mod from_row;
+pub mod making;

@@ -1,15 +1,18 @@
 -- What a ring of rows holds, and what one written row, a new first row and a new number of elements make of it.
 --
 --   row_of_below, row_of_apart, row_of_next   rows lie within, differ at different places, and the place after is a place of the rest
+--   row_of_first, row_of_last                 the row after the first is a first row, and the last place from it on is the row of the first
 --   length_in_order, get_or_in_order          how many elements there are, and each of them
 --   in_order_none                             a ring of no rows, or with no element
+--   in_order_within                           numbers past the rows do as the number of rows
 --   in_order_read                             the element at a place, as it is read
 --   next_row_within                           numbers past the rows do as the number of rows
---   in_order_write, -push, -drop              one element written, one more, the earliest dropped
-use Rattle.std.proofs.Common.{◌≡◌, ℕ, ◌+◌, ◌-◌, ◌<◌, ◌≤◌, min, ◌≢◌, List, [], ◌∷◌, ◌++◌, length, get_or, drop, set, Some, sym, ap, ◌∙◌, ⊎_elim, arith}
-use Rattle.std.proofs.lemmas.List.{places, same_lists, length-take, length-append, length-drop, get_or-set_same, get_or-set_other, length-set, get_or-drop, get_or_append_left, get_or_push, length_push, nil_from_length}
+--   next_row_room, -full, -drop               the row to write next: where there is room, where there is none, after a drop
+--   in_order_write, -push, -drop, -fewer      one element written, one more, the earliest dropped, the latest dropped
+use Rattle.std.proofs.Common.{◌≡◌, ℕ, ◌+◌, ◌-◌, ◌<◌, ◌≤◌, min, ◌≢◌, List, [], ◌∷◌, ◌++◌, length, get_or, take, drop, set, Some, sym, ap, ◌∙◌, ⊎_elim, arith, rules}
+use Rattle.std.proofs.lemmas.List.{places, same_lists, length-take, length-append, length-drop, get_or-set_same, get_or-set_other, length-set, take-take, get_or-drop, get_or_append_left, get_or_push, length_push, nil_from_length}
 use Rattle.std.proofs.lemmas.Option.{slice_get-get_or}
-use Rattle.std.proofs.lemmas.Bool.{cases_eq}
+use Rattle.std.proofs.lemmas.Bool.{cases_eq, cases_lt}
 use Rattle.std.specs.List.{slice_get}
 use Rattle.queue.specs.Rings.{in_order, next_row, row_of}
 
@@ -22,12 +25,39 @@ row_of_apart n h i k a b e ne same = grind arith
 pub row_of_next : (n h k : ℕ) → h ≤ n → k + 1 < n → row_of n (row_of n h 1) k ≡ row_of n h (k + 1)
 row_of_next n h k a b = grind arith
 
+pub row_of_first : (n h : ℕ) → h ≤ n → 0 < n → row_of n h 1 ≤ n
+row_of_first n h a b = grind arith
+
+row_of_last : (n h : ℕ) → h ≤ n → 0 < n → row_of n (row_of n h 1) (n - 1) ≡ row_of n h 0
+row_of_last n h a b = grind arith
+
 -- numbers past the rows
 pub next_row_within : (n h l : ℕ) → next_row n (min (min h n) n) (min (min l n) n) ≡ next_row n (min h n) (min l n)
 next_row_within n h l =
     let a : min (min h n) n ≡ min h n = omega arith in
     let b : min (min l n) n ≡ min l n = omega arith in
     rw (a, b)
+
+-- where there is room it is the row of the place after the last, else that of the earliest
+pub next_row_room : (n h l : ℕ) → h ≤ n → l < n → next_row n (min h n) (min l n) ≡ row_of n h l
+next_row_room n h l a b = grind arith
+
+next_row_full : (n h l : ℕ) → h ≤ n → n ≤ l → next_row n (min h n) (min l n) ≡ row_of n h 0
+next_row_full n h l a b = grind arith
+
+-- dropping the earliest leaves it where it is
+pub next_row_drop : (n h l row : ℕ) → h ≤ n → 0 < l → l ≤ n → row ≡ row_of n h 1 → next_row n (min row n) (min (l - 1) n) ≡ next_row n (min h n) (min l n)
+next_row_drop n h l row a b e r =
+    let within = row_of_first n h a (omega arith) in
+    let before : l - 1 + 1 ≡ l = omega arith in
+    next_row_room n row (l - 1) (omega arith) (omega arith)
+    ∙ ap (λ k. row_of n k (l - 1)) r
+    ∙ ⊎_elim
+    (λ room. row_of_next n h (l - 1) a (omega arith) ∙ ap (row_of n h) before ∙ sym (next_row_room n h l a room))
+    (λ full.
+    let last : l - 1 ≡ n - 1 = omega arith in
+    ap (row_of n (row_of n h 1)) last ∙ row_of_last n h a (omega arith) ∙ sym (next_row_full n h l a full))
+    (cases_lt l n)
 
 pub length_in_order : {A : Type 0} (rows : List A) (h l : ℕ) → length (in_order rows h l) ≡ min l (length rows)
 unfolding in_order
@@ -43,6 +73,11 @@ get_or_in_order_of rows n h l i d e a b f = get_or_in_order rows h l i d (omega 
 
 pub in_order_none : {A : Type 0} (rows : List A) (h l : ℕ) → min l (length rows) ≡ 0 → in_order rows h l ≡ []
 in_order_none rows h l e = nil_from_length (in_order rows h l) (length_in_order rows h l ∙ e)
+
+-- numbers past the rows do as the number of rows
+pub in_order_within : {A : Type 0} (rows : List A) (h l : ℕ) → in_order rows (min h (length rows)) (min l (length rows)) ≡ in_order rows h l
+unfolding in_order
+in_order_within rows h l = same_lists _ _ (search (rules, places)) (λ k d b. grind (arith, places))
 
 pub in_order_read : {A : Type 0} (rows : List A) (h l i row : ℕ) (x : A) → h ≤ length rows → l ≤ length rows → i < l → row ≡ row_of (length rows) h i → Some (get_or rows row x) ≡ slice_get (in_order rows h l) i
 in_order_read rows h l i row x a b e r =
@@ -97,5 +132,9 @@ in_order_drop rows h l a b e =
     ∙ sym (get_or_in_order rows h l (k + 1) d a (omega arith) (omega arith))
     ∙ ap (λ j. get_or (in_order rows h l) j d) (let c : k + 1 ≡ 1 + k = omega arith in c)
     ∙ sym (get_or-drop 1 (in_order rows h l) k d)))
+
+pub in_order_fewer : {A : Type 0} (rows : List A) (h l m : ℕ) → m ≤ l → in_order rows h m ≡ take m (in_order rows h l)
+unfolding in_order
+in_order_fewer rows h l m le = sym (take-take m l (drop h rows ++ take h rows) le)
 
 pub ruleset entering = (length_in_order, in_order_none)

@@ -4,8 +4,8 @@ ghost use Rattle.std.specs.List.{position, slice_get};
 ghost use Rattle.lent.specs.Lent.{Untouched};
 ghost use Rattle.queue.specs.Rings.{row_of};
 
-mod entering;
-mod removing;
+pub mod entering;
+pub mod removing;
 
 /// A queue over handed rows, as a ring: the earliest element lies in row `head`, the others
 /// after it, and past the last row they go on at row 0, so that entering and dropping the

@@ -67,6 +67,37 @@ fn the_others_keep_their_order(rt: HostRuntime) {
     assert_eq!(rt; removed(3), (Some(3), Some(4), Some(5), None));
 }
 
+/// What is left of these in four rows without the one at a place.
+fn left_of(items: &[u32], place: usize) -> (Option<u32>, Option<u32>, Option<u32>, Option<u32>) {
+    let mut rows = [UNUSED; 4];
+    let mut queue = enter_all(&mut rows, items);
+    queue.remove(place);
+    told(&queue)
+}
+
+#[test]
+fn the_later_ones_close_up(rt: HostRuntime) {
+    let four = [1, 2, 3, 4];
+    assert_eq!(rt; left_of(&four, 2), (Some(1), Some(2), Some(4), None));
+    assert_eq!(rt; left_of(&four, 3), (Some(1), Some(2), Some(3), None));
+    let five = [1, 2, 3, 4, 5];
+    assert_eq!(rt; left_of(&five, 1), (Some(2), Some(4), Some(5), None));
+    assert_eq!(rt; left_of(&five, 2), (Some(2), Some(3), Some(5), None));
+    assert_eq!(rt; left_of(&five, 3), (Some(2), Some(3), Some(4), None));
+}
+
+#[test]
+fn the_later_ones_close_up_round_the_last_row(rt: HostRuntime) {
+    let mut rows = [UNUSED; 8];
+    let mut queue = enter_all(&mut rows, &[1, 2, 3, 4, 5, 6, 7, 8, 9, 10]);
+    queue.remove(4);
+    assert_eq!(rt; told(&queue), (Some(3), Some(4), Some(5), Some(6)));
+    assert_eq!(rt; queue.at(4), Some(8));
+    assert_eq!(rt; queue.at(5), Some(9));
+    assert_eq!(rt; queue.at(6), Some(10));
+    assert_eq!(rt; queue.len(), 7);
+}
+
 #[test]
 fn a_search_finds_the_earliest_that_passes(rt: HostRuntime) {
     let mut rows = [UNUSED; 3];

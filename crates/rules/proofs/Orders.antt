@@ -1,6 +1,7 @@
 -- Cached pages give way in a total order, and the victim is its least.
-use Rattle.std.proofs.Common.{◌≡◌, ℕ, ◌<◌, ◌≤◌, true, false, ◌⊎◌, List, [], ◌∷◌, length, get_or, Some, None, Option, refl, ap, ◌∙◌, subst, arith}
+use Rattle.std.proofs.Common.{◌≡◌, ℕ, ◌<◌, ◌≤◌, Bool, true, false, cond, ◌⊎◌, List, [], ◌∷◌, length, get_or, Some, None, Ok, Err, Option, refl, ap, ◌∙◌, subst, arith}
 use Rattle.std.specs.Cmp.{IsStrictWeakOrder}
+use Rattle.std.specs.Result.{result_unwrap_or}
 use Rattle.std.proofs.ByRecursion.{All-from_get_or}
 use Rattle.std.proofs.lemmas.List.{get_or_default}
 use Rattle.std.proofs.lemmas.Bool.Decides.{nat_tests}
@@ -10,8 +11,10 @@ use Rattle.order.proofs.Leasts.{least_first}
 use Rattle.order.proofs.Thens.{ranks_then}
 use Rattle.counting.specs.Rows.{row_in}
 use Rattle.counting.specs.declared.row.Row.{Row}
-use Rattle.priority.specs.Priorities.{less, within}
+use Rattle.priority.specs.Learned.{row_parts}
+use Rattle.priority.specs.Priorities.{less, lowest, priority_from, within}
 use Rattle.priority.specs.declared.priority.Priority.{Priority}
+use Rattle.priority.specs.declared.priority_parts.PriorityParts.{PriorityParts}
 use Rattle.priority.specs.Fractions.{lower_ranks}
 use Rattle.rules.specs.declared.entry.Entry.{Entry}
 use Rattle.rules.specs.Priorities.{earlier, gives_way, priority_by, priority_of, worth_less}
@@ -19,9 +22,16 @@ use Rattle.rules.specs.Choices.{evict, choose, contest, victim_place}
 use Rattle.rules.specs.Victims.{GivesWay, Victim, Victims}
 
 -- ---- every priority is within the limits
+or_lowest_within : (p : PriorityParts) → within (result_unwrap_or (priority_from p) lowest) ≡ true
+or_lowest_within p = go (within p) refl
+  where
+    go : (b : Bool) → within p ≡ b → within (result_unwrap_or {E = ℕ} (cond b (Ok p) (Err 9)) lowest) ≡ true
+    go true e = e
+    go false e = refl
+
 by_within : (o : Option (Row HintNumbers)) → within (priority_by o) ≡ true
 by_within None = refl
-by_within (Some r) = grind arith
+by_within (Some r) = or_lowest_within (row_parts r)
 
 pub priority_within : (closed : List (Row HintNumbers)) (h : HintNumbers) → within (priority_of closed h) ≡ true
 unfolding priority_of

@@ -20,6 +20,10 @@ module _ {A : Type 0} (page : A → ℕ) where
     this : (xs : List A) → page e ≡ p → Absent p xs → length xs ≤ n → Once p n e (e ∷ xs)
     that : (x : A) (xs : List A) → (page x ≡ p → ⊥) → Once p n e xs → Once p n e (x ∷ xs)
 
+  pub once_page : (p n : ℕ) (e : A) (xs : List A) → Once p n e xs → page e ≡ p
+  once_page p n e _ (this xs q a l) = q
+  once_page p n e _ (that x xs ne o) = once_page p n e xs o
+
   -- ---- what a search finds
   pub absent_find : (p : ℕ) (xs : List A) → Absent p xs → find page p xs ≡ None
   absent_find p [] a = refl

@@ -1,5 +1,5 @@
 -- Entries with the numbers of hint sets stay so as pages are placed.
-use Rattle.std.proofs.Common.{◌≡◌, ℕ, zero, suc, true, cond, eqb, ltb, List, [], ◌∷◌, ◌++◌, length, get_or, drop, set, refl, arith}
+use Rattle.std.proofs.Common.{◌≡◌, ℕ, zero, suc, Bool, true, false, cond, eqb, ltb, List, [], ◌∷◌, ◌++◌, length, get_or, drop, set, Some, refl, subst, arith}
 use Rattle.std.proofs.lemmas.Bool.{eq-eqb}
 use Rattle.std.proofs.lemmas.Bool.Decides.{nat_tests}
 use Rattle.std.proofs.lemmas.List.Elements.{All-weaker}
@@ -10,7 +10,7 @@ use Rattle.rules.specs.declared.choice.Choice.{Choice}
 use Rattle.rules.specs.declared.choice.Choice.TheVariants.{Hit, Free, Evict, Pass}
 use Rattle.rules.specs.declared.entry.Entry.{Entry}
 use Rattle.rules.specs.State.{CachedPage, Places, entries}
-use Rattle.rules.specs.Pages.{entry_page, without}
+use Rattle.rules.specs.Pages.{entry_page, find, without}
 use Rattle.rules.specs.Placing.{cache_after, enter, place, queue_after, unqueue}
 use Rattle.server.specs.Hints.{all_hinted, each_hinted, hinted}
 
@@ -41,6 +41,15 @@ at : (es : List Entry) (i : ℕ) (d : Entry) → hinted d ≡ true → each_hint
 at [] i d n h = n
 at (y ∷ es) zero d n h = grind arith
 at (y ∷ es) (suc i) d n h = grind (arith, at es i d n)
+
+-- an entry that is found is one of them
+pub found_hinted : (p : ℕ) (es : List Entry) (e : Entry) → each_hinted es ≡ true → find entry_page p es ≡ Some e → hinted e ≡ true
+found_hinted p [] e h f = cc
+found_hinted p (y ∷ es) e h f = go (found_hinted p es e (grind arith)) (eqb y.page p) f
+  where
+    go : (find entry_page p es ≡ Some e → hinted e ≡ true) → (b : Bool) → cond b (Some y) (find entry_page p es) ≡ Some e → hinted e ≡ true
+    go k true g = let is : y ≡ e = cc in subst (λ z. hinted z ≡ true) is (grind arith)
+    go k false g = k g
 
 -- ---- the cache and the queue
 cached_set : (cs : List CachedPage) (i : ℕ) (x : CachedPage) → hinted x.entry ≡ true → each_hinted (entries cs) ≡ true → each_hinted (entries (set cs i x)) ≡ true

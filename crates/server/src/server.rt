@@ -9,4 +9,4 @@ pub enum Server<'a> {
     Open(OpenServer<'a>),
 }
 
-mod serving;
+pub mod serving;

@@ -3,13 +3,16 @@ use Rattle.std.specs.Prelude.{◌≡◌, ℕ, ◌-◌, ◌/◌, ◌%◌, ◌^◌
 use Rattle.std.proofs.Common.{arith, length-take, length-drop}
 use Rattle.store.specs.Faults.{deeper}
 use Rattle.store.specs.Meaning.{Meaning, Lawful}
-use Rattle.store.specs.Makes.{working, plate, pair}
+use Rattle.store.specs.Makes.{page_of, working, plate, pair}
+
+whole_page : (bytes : List ℕ) (p : ℕ) → p < length bytes / 256 → length (page_of bytes p) ≡ 256
+whole_page bytes p h = simp (length-take, length-drop) (omega arith)
 
 pub working_lawful : (bytes marks : List ℕ) (tally : ℕ) → Lawful (working bytes marks tally)
 working_lawful bytes marks tally = record {
   number = omega arith;
   tally = omega arith;
-  pages = λ p h. simp (length-take, length-drop) (omega arith);
+  pages = λ p h. whole_page bytes p (omega arith);
   origins = λ p h. (omega arith, omega arith);
 }
 
@@ -17,7 +20,7 @@ pub plate_lawful : (bytes : List ℕ) (tally : ℕ) → Lawful (plate bytes tall
 plate_lawful bytes tally = record {
   number = omega arith;
   tally = omega arith;
-  pages = λ p h. simp (length-take, length-drop) (omega arith);
+  pages = λ p h. whole_page bytes p (omega arith);
   origins = λ p h. (omega arith, omega arith);
 }
 

@@ -1,5 +1,5 @@
 -- A word that is read is the word that was written.
-use Rattle.std.proofs.Common.{◌≡◌, ℕ, zero, suc, ◌+◌, ◌*◌, ◌/◌, ◌%◌, ◌^◌, ◌<◌, Bool, true, false, cond, List, [], ◌∷◌, ◌++◌, length, Some, None, Ok, Err, Option, Result, sym, refl, ap, ◌∙◌, subst, arith}
+use Rattle.std.proofs.Common.{◌≡◌, ℕ, zero, suc, ◌+◌, ◌*◌, ◌/◌, ◌%◌, ◌^◌, ◌<◌, Bool, true, false, cond, List, [], ◌∷◌, ◌++◌, length, Some, None, Ok, Err, Option, sym, refl, ap, ◌∙◌, subst, arith}
 use Rattle.std.specs.List.{AllByRecursion}
 use Rattle.std.specs.Option.{ok_or, option_map}
 use Rattle.std.specs.Result.{result_map_both}
@@ -60,6 +60,22 @@ module _ (a b c d : ℕ) (ha : a < 2 ^ 8) (hb : b < 2 ^ 8) (hc : c < 2 ^ 8) (hd 
       let value : w % 2 ^ 16 ≡ c * 2 ^ 8 + d = omega arith in
       λ i. option_map (λ k. record { kind = k; client = client i; count = count i; zero = zero i; value = value i }) (kind_numbered (kind i))
 
+-- a word that was written is read, of any kind
+pub read_word : (k m n v : ℕ) → k < 2 ^ 4 → m < 2 ^ 4 → n < 2 ^ 4 → v < 2 ^ 16 → (rest : List ℕ) (place : ℕ) →
+    (number : ℕ) × (first_word (record { rest = word k m n v ++ rest; place = place }) ≡ Some (number, record { rest = rest; place = place + 1 }))
+    × (parts number ≡ option_map (λ x. plain x m n v) (kind_numbered k))
+read_word k m n v hk hm hn hv rest place =
+    let kind : (k * 2 ^ 4 + m) / 2 ^ 4 ≡ k = omega arith in
+    let client : (k * 2 ^ 4 + m) % 2 ^ 4 ≡ m = omega arith in
+    let count : n * 2 ^ 4 / 2 ^ 4 ≡ n = omega arith in
+    let zero : n * 2 ^ 4 % 2 ^ 4 ≡ 0 = omega arith in
+    let value : v / 2 ^ 8 * 2 ^ 8 + v % 2 ^ 8 ≡ v = omega arith in
+    let e = parts_of_bytes (k * 2 ^ 4 + m) (n * 2 ^ 4) (v / 2 ^ 8) (v % 2 ^ 8) (omega arith) (omega arith) (omega arith) (omega arith) in (
+      number_of (k * 2 ^ 4 + m) (n * 2 ^ 4) (v / 2 ^ 8) (v % 2 ^ 8),
+      first_word_cons (k * 2 ^ 4 + m) (n * 2 ^ 4) (v / 2 ^ 8) (v % 2 ^ 8) rest place,
+      e ∙ (λ i. option_map (λ x. record { kind = x; client = client i; count = count i; zero = zero i; value = value i }) (kind_numbered (kind i))),
+    )
+
 -- the parts of a word, by its number
 pub record Parts (n : ℕ) (w : Word) : Type 0 where
   pub kind : code w.kind ≡ n / 2 ^ 28
@@ -87,10 +103,11 @@ pub record Taken (e : Expected) (l : Left) (w : Word) (m : Left) : Type 0 where
   pub kind : kind_fits e w.kind ≡ true
   pub bits : bits_fit e w ≡ true
 
-both_passed : (b d : Bool) (f g : ℕ) → ◌≡◌ {A = Result (Unit {0}) ℕ} (cond b (cond d (Ok tt) (Err f)) (Err g)) (Ok tt) → (b ≡ true) × (d ≡ true)
-both_passed true true f g e = (refl, refl)
-both_passed true false f g e = absurd (err_ok f tt e)
-both_passed false d f g e = absurd (err_ok g tt e)
+both_passed : {X F : Type 0} (b d : Bool) (x y : X) (f g : F) → cond b (cond d (Ok x) (Err f)) (Err g) ≡ Ok y →
+    (b ≡ true) × (d ≡ true) × (x ≡ y)
+both_passed true true x y f g e = (refl, refl, cc)
+both_passed true false x y f g e = absurd (err_ok f y e)
+both_passed false d x y f g e = absurd (err_ok g y e)
 
 pub word_taken : (e : Expected) (l : Left) (w : Word) (m : Left) → word_at e l ≡ Ok (w, m) → Taken e l w m
 word_taken e l w m h =
@@ -98,16 +115,21 @@ word_taken e l w m h =
     then_ok (ok_or (parts t.0) 11) _ _ after (λ v split tests.
     then_ok (tested e v) _ _ tests (λ _ passed done.
     let same : ◌≡◌ {A = Word × Left} (v, t.1) (w, m) = cc in
-    let both = both_passed (kind_fits e v.kind) (bits_fit e v) 12 11 passed in
+    let both = both_passed (kind_fits e v.kind) (bits_fit e v) tt tt 12 11 passed in
     subst (λ y. Taken e l y.0 y.1) same
     (record { number = t.0; first = ok_or_ok _ _ _ first; parts = parts_are t.0 v (ok_or_ok _ _ _ split); kind = both.0; bits = both.1 }))))
 
--- a word that is read was written there
-pub record WordRead (e : Expected) (bs : List ℕ) (w : Word) (rest : List ℕ) : Type 0 where
+-- a word whose zero bits are 0 was written there
+pub record Written (bs : List ℕ) (w : Word) (rest : List ℕ) : Type 0 where
   pub bytes : bs ≡ word (code w.kind) w.client w.count w.value ++ rest
   pub client : w.client < 2 ^ 4
+  pub count : w.count < 2 ^ 4
   pub value : w.value < 2 ^ 16
   pub others : Bytes rest
+
+-- a word that is read was written there, and passed its tests
+pub record WordRead (e : Expected) (bs : List ℕ) (w : Word) (rest : List ℕ) : Type 0 where
+  pub written : Written bs w rest
   pub kind : kind_fits e w.kind ≡ true
   pub bits : bits_fit e w ≡ true
 
@@ -116,6 +138,20 @@ zero_bits (Size name) w h = grind arith
 zero_bits Item w h = grind arith
 zero_bits Hint w h = grind arith
 zero_bits Fill w h = grind arith
+
+-- four bytes with no bit set between count and value are the word of their parts, of any kind
+pub four_bytes : (a b c d : ℕ) (rest : List ℕ) → Bytes (a ∷ b ∷ c ∷ d ∷ rest) → b % 2 ^ 4 ≡ 0 →
+    a ∷ b ∷ c ∷ d ∷ rest ≡ word (a / 2 ^ 4) (a % 2 ^ 4) (b / 2 ^ 4) (c * 2 ^ 8 + d) ++ rest
+four_bytes a b c d rest h z =
+    let ha : a < 2 ^ 8 = h.0 in
+    let hb : b < 2 ^ 8 = h.1.0 in
+    let hc : c < 2 ^ 8 = h.1.1.0 in
+    let hd : d < 2 ^ 8 = h.1.1.1.0 in
+    let first : a ≡ a / 2 ^ 4 * 2 ^ 4 + a % 2 ^ 4 = omega arith in
+    let second : b ≡ b / 2 ^ 4 * 2 ^ 4 = omega arith in
+    let third : c ≡ (c * 2 ^ 8 + d) / 2 ^ 8 = omega arith in
+    let fourth : d ≡ (c * 2 ^ 8 + d) % 2 ^ 8 = omega arith in
+    cc
 
 -- the bytes of a number whose word has no bit set between count and value
 written_bytes : (a b c d : ℕ) (rest : List ℕ) → Bytes (a ∷ b ∷ c ∷ d ∷ rest) → (w : Word) → Parts (number_of a b c d) w → w.zero ≡ 0 →
@@ -131,28 +167,30 @@ written_bytes a b c d rest h w p z =
     let fourth : d ≡ w.value % 2 ^ 8 = omega (arith, p.value) in
     cc
 
-written_word : (e : Expected) (bs : List ℕ) (place : ℕ) (w : Word) (m : Left) → Bytes bs → Taken e (record { rest = bs; place = place }) w m →
-    WordRead e bs w m.rest
-written_word e [] place w m h t = absurd (none-some _ t.first)
-written_word e (a ∷ []) place w m h t = absurd (none-some _ t.first)
-written_word e (a ∷ b ∷ []) place w m h t = absurd (none-some _ t.first)
-written_word e (a ∷ b ∷ c ∷ []) place w m h t = absurd (none-some _ t.first)
-written_word e (a ∷ b ∷ c ∷ d ∷ bs) place w m h t =
-    let same : ◌≡◌ {A = ℕ × Left} (number_of a b c d, record { rest = bs; place = place + 1 }) (t.number, m) =
-    same_Some _ _ (sym (first_word_cons a b c d bs place) ∙ t.first) in
+-- whether or not a test would let it pass
+pub written_word : (bs : List ℕ) (place n : ℕ) (w : Word) (m : Left) → Bytes bs → first_word (record { rest = bs; place = place }) ≡ Some (n, m) → Parts n w → w.zero ≡ 0 →
+    Written bs w m.rest
+written_word [] place n w m h e p z = absurd (none-some _ e)
+written_word (a ∷ []) place n w m h e p z = absurd (none-some _ e)
+written_word (a ∷ b ∷ []) place n w m h e p z = absurd (none-some _ e)
+written_word (a ∷ b ∷ c ∷ []) place n w m h e p z = absurd (none-some _ e)
+written_word (a ∷ b ∷ c ∷ d ∷ bs) place n w m h e p z =
+    let same : ◌≡◌ {A = ℕ × Left} (number_of a b c d, record { rest = bs; place = place + 1 }) (n, m) =
+    same_Some _ _ (sym (first_word_cons a b c d bs place) ∙ e) in
     let rest : bs ≡ m.rest = ap (λ y. y.1.rest) same in
-    let parts : Parts (number_of a b c d) w = subst (λ n. Parts n w) (sym (ap (λ y. y.0) same)) t.parts in
+    let parts : Parts (number_of a b c d) w = subst (λ k. Parts k w) (sym (ap (λ y. y.0) same)) p in
     record {
-      bytes = written_bytes a b c d bs h w parts (zero_bits e w t.bits) ∙ ap (λ x. word (code w.kind) w.client w.count w.value ++ x) rest;
-      client = omega (arith, t.parts.client);
-      value = omega (arith, t.parts.value);
+      bytes = written_bytes a b c d bs h w parts z ∙ ap (λ x. word (code w.kind) w.client w.count w.value ++ x) rest;
+      client = omega (arith, p.client);
+      count = omega (arith, p.count);
+      value = omega (arith, p.value);
       others = subst Bytes rest h.1.1.1.1;
-      kind = t.kind;
-      bits = t.bits;
     }
 
 pub word_sound : (e : Expected) (l : Left) (w : Word) (m : Left) → Bytes l.rest → word_at e l ≡ Ok (w, m) → WordRead e l.rest w m.rest
-word_sound e l w m b h = written_word e l.rest l.place w m b (word_taken e l w m h)
+word_sound e l w m b h =
+    let t = word_taken e l w m h in
+    record { written = written_word l.rest l.place t.number w m b t.first t.parts (zero_bits e w t.bits); kind = t.kind; bits = t.bits }
 
 -- an expected word that was written is read
 parts_from : (w : ℕ) (k : Kind) (m n v : ℕ) → w / 2 ^ 28 ≡ code k → w / 2 ^ 24 % 16 ≡ m → w / 2 ^ 20 % 16 ≡ n → w / 2 ^ 16 % 16 ≡ 0 →

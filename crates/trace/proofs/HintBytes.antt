@@ -54,7 +54,7 @@ pub record HintsWritten (n : ℕ) (bs rest : List ℕ) : Type 0 where
 
 -- a hint word that is read has its value and nothing else
 hint_word : (bs : List ℕ) (w : Word) (rest : List ℕ) → WordRead Hint bs w rest → bs ≡ word 3 0 0 w.value ++ rest
-hint_word bs w rest r = grind (arith, r.bytes, r.kind, r.bits)
+hint_word bs w rest r = grind (arith, r.written.bytes, r.kind, r.bits)
 
 pub hints_sound : (n : ℕ) (l m : Left) → Bytes l.rest → hint_words n l ≡ Ok m → HintsWritten n l.rest m.rest
 hints_sound zero l m b h =
@@ -63,11 +63,11 @@ hints_sound zero l m b h =
 hints_sound (suc n) l m b h =
     then_ok _ _ _ h (λ t first after.
     let r = word_sound Hint l t.0 t.1 b first in
-    let i = hints_sound n t.1 m r.others after in
+    let i = hints_sound n t.1 m r.written.others after in
     record {
       values = t.0.value ∷ i.values;
       many = ap suc i.many;
-      narrow = (r.value, i.narrow);
+      narrow = (r.written.value, i.narrow);
       bytes = hint_word l.rest t.0 t.1.rest r ∙ ap (λ x. word 3 0 0 t.0.value ++ x) i.bytes;
       others = i.others;
     })

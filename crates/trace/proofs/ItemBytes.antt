@@ -20,7 +20,7 @@ use Rattle.trace.proofs.Thens.{then_ok, then_to}
 
 -- a fill word that is read has its byte and nothing else
 fill_word : (bs : List ℕ) (w : Word) (rest : List ℕ) → WordRead Fill bs w rest → (bs ≡ word 4 0 0 w.value ++ rest) × (w.value < 2 ^ 8)
-fill_word bs w rest r = (grind (arith, r.bytes, r.kind, r.bits), grind (arith, r.bits))
+fill_word bs w rest r = (grind (arith, r.written.bytes, r.kind, r.bits), grind (arith, r.bits))
 
 -- the call of an item whose kind starts one was written after its hints
 record CallRead (k : Kind) (bs : List ℕ) (t : Call × Left) : Type 0 where
@@ -38,7 +38,7 @@ call_sound kinds.Write l t b starts h =
     let r = word_sound Fill l w.0 w.1 b read in
     let g = fill_word l.rest w.0 w.1.rest r in
     let same : ◌≡◌ {A = Call × Left} (Write w.0.value, w.1) t = cc in
-    subst (CallRead kinds.Write l.rest) same (record { kind = refl; fill = g.1; bytes = g.0; others = r.others }))
+    subst (CallRead kinds.Write l.rest) same (record { kind = refl; fill = g.1; bytes = g.0; others = r.written.others }))
 call_sound kinds.Size l t b starts h = absurd (grind arith)
 call_sound kinds.Hint l t b starts h = absurd (grind arith)
 call_sound kinds.Fill l t b starts h = absurd (grind arith)
@@ -63,9 +63,9 @@ item_written l front w m c r i f =
     let few : w.count ≤ 5 = grind (arith, r.bits) in
     let a : Asked = record { call = c.0; page = w.value; hints = record { client = w.client; values = i.values } } in
     let said = request_said l.place c.0 w.value w.client i.values front.rest m.rest w.count i.bytes i.many in
-    let lawful : LawfulRequest a = record { fill = f.fill; page = r.value; client = r.client; count = omega (arith, i.many, few); values = i.narrow } in
+    let lawful : LawfulRequest a = record { fill = f.fill; page = r.written.value; client = r.written.client; count = omega (arith, i.many, few); values = i.narrow } in
     let bytes : l.rest ≡ request_bytes a ++ c.1.rest =
-    r.bytes
+    r.written.bytes
     ∙ ap (λ k. word k w.client w.count w.value ++ front.rest) f.kind
     ∙ ap (λ n. word (kind_of c.0) w.client n w.value ++ front.rest) (sym i.many)
     ∙ ap (λ x. word (kind_of c.0) w.client (length i.values) w.value ++ x)
@@ -84,7 +84,7 @@ item_sound l t b h =
     then_ok (hint_words first.0.count first.1) _ hints passed (λ m words cut.
     then_ok (call_at first.0.kind hints.1) _ t rest (λ call asks done.
     let r = word_sound Item l first.0 first.1 b read in
-    let i = hints_sound first.0.count first.1 m r.others words in
+    let i = hints_sound first.0.count first.1 m r.written.others words in
     let front : ◌≡◌ {A = List ℕ × Left} (take (4 * first.0.count) first.1.rest, m) hints = cc in
     let asks_there : call_at first.0.kind m ≡ Ok call = ap (λ x. call_at first.0.kind x.1) front ∙ asks in
     let f = call_sound first.0.kind m call i.others r.kind asks_there in

@@ -1,8 +1,10 @@
 pub mod Encodings
 pub mod HintBytes
+pub mod Hints
 pub mod ItemBytes
 pub mod Items
 pub mod SizeBytes
 pub mod SoFar
 pub mod Thens
 pub mod WholeTraces
+pub mod Words

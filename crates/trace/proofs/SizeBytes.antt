@@ -42,7 +42,7 @@ size_sound name l t b h =
     let w = first.0 in
     let r = word_sound (Size name) l w first.1 b read in
     let same : ◌≡◌ {A = ℕ × Left} (w.value, first.1) t = cc in
-    subst (SizeRead name l.rest) same (record { bytes = grind (arith, r.bytes, r.kind, r.bits); others = r.others }))
+    subst (SizeRead name l.rest) same (record { bytes = grind (arith, r.written.bytes, r.kind, r.bits); others = r.written.others }))
 
 -- one size that was written is read
 place_narrow : (name : SizeName) → sizes.place name < 2 ^ 4

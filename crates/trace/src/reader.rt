@@ -9,6 +9,6 @@ pub struct Reader<'t> {
 }
 
 mod items;
-mod reading;
+pub mod reading;
 mod sizes;
 mod words;

@@ -1,10 +1,15 @@
 -- Sizes that are not refused: they are as given, and within their limits.
-use Rattle.std.proofs.Common.{◌≡◌, ℕ, ◌≤◌, Ok, Err, Result, sym, ◌∙◌, refl, arith}
+use Rattle.std.proofs.Common.{◌≡◌, ℕ, ◌≤◌, Bool, true, false, cond, Ok, Err, Result, sym, ◌∙◌, refl, arith}
 use Rattle.std.specs.Result.{result_and}
 use Rattle.values.specs.declared.size_numbers.SizeNumbers.{SizeNumbers}
 use Rattle.values.specs.declared.sizes.SizeName.{SizeName}
 use Rattle.values.specs.declared.sizes.SizeName.TheVariants.{CachePlaces, QueuePlaces, HintRows, PageRows, Window}
 use Rattle.values.specs.Sizes.{limited, most, sizes_from}
+
+-- a test that is not refused is passed
+ok_passed : (b : Bool) (f : ℕ × ℕ) → ◌≡◌ {A = Result (Unit {0}) (ℕ × ℕ)} (cond b (Ok tt) (Err f)) (Ok tt) → b ≡ true
+ok_passed true f e = refl
+ok_passed false f e = let z : ◌≡◌ {A = ℕ} 0 1 = cc in absurd (omega arith)
 
 pub record Positive (n : SizeNumbers) : Type 0 where
   pub cache : 1 ≤ n.cache_places

@@ -2,7 +2,7 @@ ghost use Rattle.std.specs.Prelude.{◌≡◌, ◌≤◌, length, slice_index};
 
 use crate::hint_set::MOST_VALUES;
 
-const MOST_CLIENT: u8 = 15;
+pub(crate) const MOST_CLIENT: u8 = 15;
 
 /// The plain numbers of a hint set, for handed memory, which may hold anything.
 // Five fields and no array, which a specification sees as a list of any length.

@@ -1,6 +1,5 @@
 ghost use Rattle.std.specs.Prelude.{◌≡◌, ◌≤◌, [], ◌∷◌, drop};
 ghost use Rattle.std.specs.List.{All};
-ghost use Rattle.std.specs.Result.{result_map_both};
 
 use crate::hint_numbers::HintNumbers;
 use std::fmt;
@@ -33,41 +32,4 @@ impl fmt::Display for BadHintSet {
 
 impl std::error::Error for BadHintSet {}
 
-impl HintSet {
-    ghost use Rattle.values.specs.HintSets.{hints_from, meaning, numbers_of, refused, says};
-
-    /// The hint set of a client with a list of values.
-    #[tactic(auto, using(crate::proofs::Padded::lawful_padded, crate::proofs::Padded::says_padded))]
-    pub fn new(client: u8, values: &[u16]) -> Result<HintSet, BadHintSet>
-        ensures { result_map_both meaning refused result ≡ hints_from client values.now }
-    {
-        if values.len() > MOST_VALUES {
-            return Err(BadHintSet);
-        }
-        HintSet::try_from(HintNumbers::padded(client, values))
-    }
-
-    /// The plain numbers, which mean what the hint set means.
-    pub fn numbers(self) -> HintNumbers
-        ensures value { result ≡ numbers_of self }
-        ensures meaning { says result ≡ meaning self }
-    {
-        self.numbers
-    }
-}
-
-/// The hint set that plain numbers stand for, if they are those of one.
-impl TryFrom<HintNumbers> for HintSet {
-    ghost use Rattle.values.specs.HintSets.{Made};
-
-    type Error = BadHintSet;
-
-    ghost try_from_gives = { Made };
-
-    fn try_from(numbers: HintNumbers) -> Result<HintSet, BadHintSet> {
-        if !numbers.is_lawful() {
-            return Err(BadHintSet);
-        }
-        Ok(HintSet { numbers })
-    }
-}
+pub mod making;

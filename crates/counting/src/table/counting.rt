@@ -30,7 +30,7 @@ fn written<K: Key + Copy>(used: &[Row<K>], room: usize, c: Counting<K>) -> (usiz
         return (used.len(), Row::new(c, 0));
     }
     // The least count gives way, the earliest entered among equals, then the first.
-    let Some(place) = least_place(used, |row| (row.count, row.entered)) else {
+    let Some(place) = least_place(&used) else {
         unreachable()
     };
     (place, used[place].replaced(c))

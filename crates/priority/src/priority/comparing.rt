@@ -4,10 +4,11 @@ ghost use Rattle.std.specs.Prelude.{◌≡◌, ◌*◌, ◌^◌, ◌<◌, refl};
 ghost use Rattle.std.specs.Cmp.{partial_equiv_from_equiv, partial_order_from_total};
 ghost use Rattle.std.specs.Ordering.{as_partial_cmp, eq_by_cmp};
 ghost use Rattle.std.proofs.lemmas.Cmp.{eq_by_cmp_equiv};
-ghost use Rattle.priority.specs.Priorities.{by_value, less, parts_of};
-ghost use Rattle.priority.specs.Fractions.{by_value_total};
+ghost use Rattle.priority.specs.Priorities.{by_value, less, lower, parts_of};
+ghost use Rattle.priority.specs.Fractions.{by_value_total, lower_ranks};
 
 use crate::priority::Priority;
+use order::Order;
 use std::cmp::Ordering;
 
 impl PartialEq for Priority {
@@ -45,6 +46,17 @@ impl Ord for Priority {
 
     fn cmp(&self, other: &Priority) -> Ordering {
         self.cross(*other).cmp(&other.cross(*self))
+    }
+}
+
+/// The same order by its less.
+impl Order for Priority {
+    ghost before = { lower };
+
+    ghost ranks = { lower_ranks };
+
+    fn precedes(&self, other: &Priority) -> bool {
+        self < other
     }
 }
 

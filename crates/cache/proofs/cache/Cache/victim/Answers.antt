@@ -8,6 +8,6 @@ use Rattle.cache.proofs.cache.Cache.victim.Goals as goal
 pub returns-clause-value : goal.returns-clause-value
 returns-clause-value c =
     let closed = c.args.closed.now in
-    c.least_place.ensures.value (ranked_by closed) (always_returns_same _ _ _ (λ a r f' k. (ranked_as closed a.0.now r (search rules) (search rules), search rules)))
+    c.least_by.ensures.value (ranked_by closed) (always_returns_same _ _ _ (λ a r f' k. (ranked_as closed a.0.now r (search rules) (search rules), search rules)))
     ∙ least_rank closed c.entries.result.now
     ∙ ap (λ es. least_in (gives_way closed) es) c.entries.ensures

@@ -1,7 +1,6 @@
-use Rattle.std.proofs.Common.{sym, ap, ◌∙◌, arith, rules}
-use Rattle.std.proofs.lemmas.Fn.{always_returns_same}
+use Rattle.std.proofs.Common.{sym, ap, ◌∙◌, arith}
 use Rattle.std.proofs.lemmas.Option.{same_Some}
-use Rattle.order.proofs.Orders.{least_same, less_by_numbers}
+use Rattle.order.specs.Least.{least}
 use Rattle.counting.specs.Rows.{amend, put, raised, replaced, sooner}
 use Rattle.counting.proofs.Founds.{found_some}
 use Rattle.counting.proofs.Puts.{put_amend, put_end}
@@ -31,7 +30,7 @@ returns-clause-rows g c =
     let place = c.in-Some-least_place.place in
     let replace = replaced c.args.c.key c.args.c.number in
     let chosen = c.in-Some-least_place.ensures in
-    let least = chosen.some (λ r. (r.count, r.entered)) (always_returns_same _ _ _ (λ a r f' k. search rules)) (omega (arith, chosen.within)) in
-    ap (put used place) (c.replaced.ensures ∙ ap replace c.index-used-place.is) ∙ put_amend replace used place _ chosen.within
-    ∙ ap (amend replace used) (same_Some _ _ least ∙ least_same {sooner = sooner} (less_by_numbers (λ r. r.count) (λ r. r.entered)) used)
+    let within = chosen.first.0 in
+    ap (put used place) (c.replaced.ensures ∙ ap replace c.index-used-place.is) ∙ put_amend replace used place _ within
+    ∙ ap (amend replace used) (same_Some place (least sooner used) (chosen.some (omega (arith, within))))
     ∙ sym (counting_replaces g.K.Key.meaning c.args.room used c.args.c.key c.args.c.number (sym c.in_default.ensures.value) c.if-used-room.false)

@@ -5,7 +5,7 @@ use Rattle.std.proofs.lemmas.Iterator.Consumers.{YieldsList-from_enumerate}
 use Rattle.std.proofs.lemmas.List.MinMax.{ranks_by}
 use Rattle.order.specs.Least.{less_by}
 use Rattle.order.proofs.Leasts.{computed, least_found, least_found_first, least_found_some}
-use Rattle.order.proofs.least.least_place.Goals as goal
+use Rattle.order.proofs.least.least_by.Goals as goal
 
 pub returns-clause-value : goal.returns-clause-value
 returns-clause-value g c key k =
